@@ -1,0 +1,12 @@
+pub mod XorLaws
+pub mod Tests
+pub mod Each
+pub mod SymDiff
+pub mod VarLists
+pub mod Order
+pub mod Values
+pub mod Spans
+pub mod Elimination
+pub mod Canon
+pub mod Existence
+pub mod Examples

@@ -1,0 +1,4 @@
+pub mod Equation
+pub mod Span
+pub mod Canonical
+pub mod Ours
