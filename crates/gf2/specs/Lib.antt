@@ -2,3 +2,4 @@ pub mod Equation
 pub mod Span
 pub mod Canonical
 pub mod Ours
+pub mod Result

@@ -1,0 +1,1 @@
+// Lent memory: stretches of a slice, zeroed, copied and exchanged.

@@ -1,0 +1,1 @@
+// Sparse Gaussian elimination over two elements.
