@@ -9,6 +9,7 @@ pub mod Selecting
 pub mod Values
 pub mod Spans
 pub mod Sums
+pub mod Results
 pub mod Elimination
 pub mod Canon
 pub mod OneValue

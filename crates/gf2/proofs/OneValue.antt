@@ -6,7 +6,7 @@ use mathlib.Core.Bool.{Bool, true, false, _||_, true≢false, false≢true}
 use Prim.Native.Nat.{ℕ, zero, suc, _<_, _^_}
 use native.Mathlib.Omega.{arith}
 use native.Mathlib.Decide.{decLt}
-use lib.ListN.{length, getD, set}
+use lib.ListN.{length, getD, set, replicate}
 use lib.Seq.{getD-set-other, getD-set-same, set-out}
 use lib.Bits.{bitXor}
 use lib.Dec.{eqb}
@@ -63,13 +63,13 @@ evalVars-fix (u ∷ us) y z v d h a e = go (same? v u) (evalVars-fix us y z v (d
         → getD y v 0 ≡ getD z v 0
     go (eq r t) ih =
         let same-rest : evalVars us y ≡ evalVars us z =
-            evalVars-same us y z (λ w l. a w (tail-listed w u us l) (λ p. listed-differ w u us l (d .0) (p ∙ r))) in
+        evalVars-same us y z (λ w l. a w (tail-listed w u us l) (λ p. listed-differ w u us l (d .0) (p ∙ r))) in
         ap (λ x. getD y x 0) r
         ∙ xor-cancel-right (evalVars us z) (getD y u 0) (getD z u 0) (ap (bitXor (getD y u 0)) (sym same-rest) ∙ e)
         ∙ sym (ap (λ x. getD z x 0) r)
     go (ne r t) ih =
         ih (rw t at h) (λ w l. a w (tail-listed w u us l))
-          (xor-cancel-left (getD y u 0) (evalVars us y) (evalVars us z) (e ∙ ap (λ x. bitXor x (evalVars us z)) (sym (a u (head-listed u us) (λ p. r (sym p))))))
+        (xor-cancel-left (getD y u 0) (evalVars us y) (evalVars us z) (e ∙ ap (λ x. bitXor x (evalVars us z)) (sym (a u (head-listed u us) (λ p. r (sym p))))))
 
 -- ---- words of k digits
 
@@ -90,3 +90,10 @@ module _ (k : ℕ) where
 
   pub span-small : (es : List Equation) (r : Equation) → Each (λ q. q .c < 2 ^ k) es → InSpan es r → r .c < 2 ^ k
   span-small es r h p = rw (p .same-const) (constOf-lt k (p .mask) es h)
+
+-- ---- n zeros
+
+pub zeros-at : (n v : ℕ) → getD {A = ℕ} (replicate n 0) v 0 ≡ 0
+zeros-at zero v = refl
+zeros-at (suc n) zero = refl
+zeros-at (suc n) (suc v) = zeros-at n v

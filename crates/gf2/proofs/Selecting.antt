@@ -37,6 +37,7 @@ distinct-keep p (u ∷ us) h = go (p u) (distinct-keep p us (h .1))
     drop-false : (b c : Bool) → c ≡ false → (b && c) ≡ false
     drop-false true c e = e
     drop-false false c e = refl
+
     go : (b : Bool) → Distinct (keep p us) → Distinct (cond b (u ∷ keep p us) (keep p us))
     go true ih = (lists-keep p u us ∙ drop-false (p u) (lists u us) (h .0), ih)
     go false ih = ih
@@ -123,4 +124,3 @@ count-one p v (u ∷ us) e h = go (same? v u) (count-one p v us e)
     go : Same v u → (lists v us ≡ true → 0 < count p us) → 0 < one (p u) + count p us
     go (eq r t) ih = rw (← r, e) (omega arith)
     go (ne r t) ih = let k : 0 < count p us = ih (rw t at h) in omega arith
-
