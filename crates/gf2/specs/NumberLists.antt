@@ -30,6 +30,11 @@ unfoldable pub one : Bool → ℕ
 one true = 1
 one false = 0
 
+-- is the number above 0?
+unfoldable pub pos : ℕ → Bool
+pos zero = false
+pos (suc _) = true
+
 -- how many of the list pass the test
 unfoldable pub count : (ℕ → Bool) → List ℕ → ℕ
 count p [] = 0
