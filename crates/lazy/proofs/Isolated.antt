@@ -18,6 +18,7 @@ use Rattle.lazy.specs.Invariant.{Lent, Stopping, TakenBefore}
 use Rattle.lazy.specs.Lazy.{listing, wholeRun, ended}
 use Rattle.gf2.proofs.Counting.{count-some, count-one, count-same}
 use Rattle.gf2.proofs.Members.{Same, eq, ne, same?, or-r, head-listed, and-true}
+use Rattle.gf2.proofs.OurCells.{any-listed}
 use Rattle.gf2.proofs.OneValue.{evalVars-same}
 use Rattle.gf2.proofs.Selecting.{getD-map-up, length-up, length-zero, length-keep}
 use Rattle.gf2.proofs.Tests.{not-true→false}
@@ -265,15 +266,6 @@ listing-is (q ∷ qs) v = go (lists v (q .vars)) (shift-keep (listsAt (q ∷ qs)
         → length (cond b (0 ∷ keep (listsAt (q ∷ qs) v) (upFrom 1 (length qs))) (keep (listsAt (q ∷ qs) v) (upFrom 1 (length qs)))) ≡ one b + listing-count v qs
     go true ih = let z : suc (length (keep (listsAt (q ∷ qs) v) (upFrom 1 (length qs)))) ≡ 1 + listing-count v qs = omega arith in z
     go false ih = let z : length (keep (listsAt (q ∷ qs) v) (upFrom 1 (length qs))) ≡ 0 + listing-count v qs = omega arith in z
-
-any-listed : (P : ℕ → Bool) (v : ℕ) (vs : List ℕ) → lists v vs ≡ true → P v ≡ true → anyOurs P vs ≡ true
-unfolding anyOurs lists
-any-listed P v [] h p = absurd (false≢true h)
-any-listed P v (u ∷ us) h p = go (same? v u) (any-listed P v us)
-  where
-    go : Same v u → (lists v us ≡ true → P v ≡ true → anyOurs P us ≡ true) → (P u || anyOurs P us) ≡ true
-    go (eq r t) ih = rw (sym (ap P r) ∙ p)
-    go (ne r t) ih = or-r (P u) (ih (rw t at h) p)
 
 count-ours : (P : ℕ → Bool) (v : ℕ) → P v ≡ true → (sys : List Equation) → listing-count v (ourPart P sys) ≡ listing-count v sys
 unfolding listing-count ourPart one

@@ -58,7 +58,7 @@ module _ (n : ℕ) (sys : List Equation) (lent : Lent n sys) where
       let p = i .in-same .spans (c .at) in
       (p .mask, empty-row-cancels sys (rowOf (s .rows) (c .at)) p (c .empty) (c .nonzero))
 
-  inv-ready : (s : State) → Inv n sys s → s .remaining ≡ 0 → Ready n sys s
+  pub inv-ready : (s : State) → Inv n sys s → s .remaining ≡ 0 → Ready n sys s
   inv-ready s i z =
       record {
         base = s;
