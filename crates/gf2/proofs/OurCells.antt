@@ -1,7 +1,7 @@
 -- A variable that an equation lists, and whether the equation's variables are ours.
-use mathlib.Core.Path.{_≡_, refl, sym, ap, _∙_}
+use mathlib.Core.Path.{_≡_, sym, ap, _∙_}
 use mathlib.Core.List.{List, [], _∷_}
-use mathlib.Core.Bool.{Bool, true, false, _||_, _&&_, false≢true}
+use mathlib.Core.Bool.{Bool, true, _||_, false≢true}
 use Prim.Native.Nat.{ℕ}
 use Rattle.gf2.specs.Equation.{lists}
 use Rattle.gf2.specs.Ours.{anyOurs, allOurs}

@@ -1,23 +1,22 @@
 -- Nothing that the Rust takes for granted fails, in any state that the machine reaches.
 use mathlib.Core.Path.{_≡_, refl, sym, ap, _∙_, subst}
-use mathlib.Core.Logic.{_≢_, _⊎_, inl, inr}
+use mathlib.Core.Logic.{_≢_}
 use mathlib.Core.List.{List, [], _∷_, _++_, map}
-use mathlib.Core.Bool.{Bool, true, false, not, _||_, true≢false, false≢true}
-use Prim.Native.Nat.{ℕ, zero, suc, _+_, _≤_, _<_}
+use mathlib.Core.Bool.{Bool, true, false, not, _||_, true≢false}
+use Prim.Native.Nat.{ℕ, zero, suc, _≤_, _<_}
 use native.Mathlib.Omega.{arith}
 use native.Mathlib.Decide.{ℕ-discrete}
 use lib.ListN.{length, getD, replicate}
 use lib.Dec.{eqb}
 use Rattle.gf2.specs.Equation.{Equation, lists}
-use Rattle.gf2.specs.NumberLists.{one, count, Distinct}
+use Rattle.gf2.specs.NumberLists.{Distinct}
 use Rattle.gf2.specs.ByNumber.{rowOf, listsAt}
-use Rattle.gf2.specs.Result.{Result, unsolvable, ok}
 use Rattle.sparse.specs.Eliminate.{backSub}
 use Rattle.lazy.specs.Lazy.{State, Solved, listing, others, isIdle, fill, Build, more, ended, unit, after, start}
-use Rattle.lazy.specs.Invariant.{Lent, Inv, StackInv, free, isSolved, solves}
+use Rattle.lazy.specs.Invariant.{Lent, Inv, StackInv, free, isSolved}
 use Rattle.lazy.specs.Safe.{Safe, pivotOf}
 use Rattle.gf2.proofs.Tests.{eqb-true}
-use Rattle.gf2.proofs.Members.{and-true, or-false, or-r, head-listed, tail-listed}
+use Rattle.gf2.proofs.Members.{and-true, or-r, head-listed}
 use Rattle.gf2.proofs.Counting.{count-one}
 use Rattle.lazy.proofs.Pivots.{listsAt-below, lists-listing, lists-others, is-free, pivot-solves}
 use Rattle.lazy.proofs.Keeps.{pivot-there, pivot-free, idle-alone}

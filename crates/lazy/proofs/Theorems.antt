@@ -1,18 +1,18 @@
 -- What lazy elimination answers: a solution or a contradiction, never one for the other, within 2m + n + 1 units.
 use mathlib.Core.Path.{_≡_, refl, sym, ap, _∙_, subst}
-use mathlib.Core.Logic.{_≢_, _⊎_, inl, inr, _↔_}
-use mathlib.Core.List.{List, [], _∷_}
+use mathlib.Core.Logic.{_⊎_, inl, inr, _↔_}
+use mathlib.Core.List.{List}
 use mathlib.Core.Bool.{Bool, true, false, true≢false}
-use Prim.Native.Nat.{ℕ, zero, suc, _+_, _-_, _≤_, _<_, _^_}
+use Prim.Native.Nat.{ℕ, _+_, _-_, _≤_, _<_, _^_}
 use native.Mathlib.Omega.{arith}
 use native.Mathlib.Decide.{decLt, decLe}
 use lib.ListN.{length, getD, List·getD-eq-default}
 use lib.Pow.{pow-pos}
-use Rattle.gf2.specs.Equation.{Equation, Each, Increasing, Sorted, Below, Meets, MeetsAll, lists}
-use Rattle.gf2.specs.ByNumber.{blank, rowOf, listsAt}
+use Rattle.gf2.specs.Equation.{Equation, Each, Increasing, Sorted, Below, Meets, MeetsAll}
+use Rattle.gf2.specs.ByNumber.{blank, rowOf}
 use Rattle.gf2.specs.Span.{Cancels}
 use Rattle.gf2.specs.Ours.{anyOurs, allOurs, Apart, ourPart}
-use Rattle.gf2.specs.Result.{Result, unsolvable, ok}
+use Rattle.gf2.specs.Result.{unsolvable, ok}
 use Rattle.lazy.specs.Lazy.{State, Build, more, ended, start, after, used, enough, wholeRun, answerOf, lazyElimination}
 use Rattle.lazy.specs.Invariant.{Lent}
 use Rattle.lazy.specs.Description.{Described}
