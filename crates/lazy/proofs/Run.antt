@@ -1,6 +1,6 @@
 -- The lazy rules end within 2m + n + 1 units, with values as described, or with a refusal where some equations cancel.
 use mathlib.Core.Path.{_≡_, refl, sym, ap, subst}
-use mathlib.Core.List.{List, [], _∷_}
+use mathlib.Core.List.{List}
 use mathlib.Core.Bool.{Bool, true, false, not}
 use Prim.Native.Nat.{ℕ, zero, suc, _+_, _-_, _≤_, _<_}
 use native.Mathlib.Omega.{arith}
@@ -17,7 +17,7 @@ use Rattle.lazy.specs.Lazy.{State, start, pop, denseRow, fill, lastUnit,
 use Rattle.gf2.proofs.Spans.{empty-row-cancels}
 use Rattle.gf2.proofs.Tests.{true→T}
 use Rattle.sparse.proofs.BackSub.{contradicted-clash}
-use Rattle.sparse.proofs.OuterRow.{Like, like-same, like-then, Echelon, RoundMet, round-clash, round-met, outerRow-met, echelon-triangular}
+use Rattle.sparse.proofs.OuterRow.{echelon-zero, Like, like-same, like-then, Echelon, RoundMet, round-clash, round-met, outerRow-met, echelon-triangular}
 use Rattle.lazy.proofs.AtStart.{start-inv, start-variables, start-remaining, start-dense}
 use Rattle.lazy.proofs.Ending.{clash-ends, dense-sorted, values-right}
 use Rattle.lazy.proofs.Pops.{Popped, Clash, After, pop-keeps}
@@ -70,10 +70,6 @@ module _ (n : ℕ) (sys : List Equation) (lent : Lent n sys) where
         like = like-same (s .dense);
         echelon = subst (λ k. Echelon k (s .dense)) (sym (i .in-units .not-yet)) (echelon-zero (s .dense));
       }
-    where
-      echelon-zero : (l : List Equation) → Echelon zero l
-      echelon-zero [] = tt
-      echelon-zero (r ∷ l) = tt
 
   -- a unit that pops
   pop-went : (s : State) → Inv n sys s → 0 < s .remaining → Went n sys s (goOn (pop sys s))
