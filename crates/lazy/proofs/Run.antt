@@ -152,6 +152,24 @@ module _ (n : ℕ) (sys : List Equation) (lent : Lent n sys) where
       go (suc k) p (popping i) = pop-went s i (omega arith)
       go (suc k) p (clearing r) = let z = r .none in absurd (omega arith)
 
+  abbrev Going : Build → Type 1
+  Going (more s) = Live n sys s
+  Going (ended r) = Unit {1}
+
+  went-going : (s : State) {b : Build} → Went n sys s b → Going b
+  went-going s (on l d) = l
+  went-going s (over q) = tt
+
+  after-going : (k : ℕ) (b : Build) → Going b → Going (after k n sys b)
+  unfolding after
+  after-going zero b g = g
+  after-going (suc k) (more s) g = after-going k (unit n sys s) (went-going s (unit-went s g))
+  after-going (suc k) (ended r) g = tt
+
+  -- a state that the machine reaches from the start is popping, or works on the dense part
+  pub reached : (k : ℕ) (s : State) → after k n sys (more (start n sys)) ≡ more s → Live n sys s
+  reached k s e = subst Going e (after-going k (more (start n sys)) (popping (start-inv n sys lent)))
+
   pub data Ended : Build → Type 0 where
     ended-so : {r : Result (List ℕ)} → Right n sys r → Ended (ended r)
 
