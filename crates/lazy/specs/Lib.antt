@@ -1,0 +1,5 @@
+pub mod Lazy
+pub mod Invariant
+pub mod Description
+pub mod Rank
+pub mod Safe

@@ -1,0 +1,1 @@
+// Lazy Gaussian elimination over two elements.
