@@ -1,5 +1,7 @@
 // The lent sparse system: `rules` refuses with 1 to 3, `check` says whether a solution meets every equation.
-pub mod evaluation;
+mod evaluation;
+
+pub use evaluation::eval_vars;
 mod order;
 mod shape;
 
