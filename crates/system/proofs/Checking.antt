@@ -18,6 +18,11 @@ use Rattle.system.specs.declared.Checked.the-variants.{Refused, Yes, No}
 use Rattle.system.specs.System.{equations, systemRules, allMet, checked, checkCall}
 use Rattle.system.proofs.Meeting.{met-meets, meets-met}
 
+-- 1 to 3 before all else
+pub check-refused : (n m : ℕ) (starts vars constants solution : List ℕ) (answer : Answer) → systemRules n m starts vars constants ≡ Broken answer → checkCall n m starts vars constants solution ≡ Refused answer
+unfolding checkCall
+check-refused n m starts vars constants solution answer k = simp k
+
 yes-met : (b : Bool) → pick b Yes No ≡ Yes → b ≡ true
 yes-met true e = refl
 yes-met false e = let z : _≡_ {A = ℕ} 0 1 = cc in absurd (omega arith)
@@ -36,11 +41,6 @@ checked-yes Kept n es x e = go (eqb (length x) n) (allMet x es) refl refl e
     go false b p q e = let z : _≡_ {A = ℕ} 0 1 = cc in absurd (omega arith)
 
 module _ (n m : ℕ) (starts vars constants solution : List ℕ) where
-  -- 1 to 3 before all else
-  pub check-refused : (answer : Answer) → systemRules n m starts vars constants ≡ Broken answer → checkCall n m starts vars constants solution ≡ Refused answer
-  unfolding checkCall
-  check-refused answer k = simp k
-
   -- then 4
   pub check-wrong : systemRules n m starts vars constants ≡ Kept → (length solution ≡ n → ⊥) → checkCall n m starts vars constants solution ≡ Refused WrongSolution
   unfolding checkCall
