@@ -6,4 +6,5 @@ pub mod Lowest
 pub mod Meeting
 pub mod Soundness
 pub mod Checking
+pub mod SolverCalls
 pub mod Examples
