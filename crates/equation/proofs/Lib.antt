@@ -3,3 +3,6 @@ pub mod Turn
 pub mod InRoom
 pub mod Gather
 pub mod Settle
+pub mod Cancelled
+pub mod Meaning
+pub mod Examples

@@ -1,6 +1,7 @@
 -- The loop that tests whether a list is increasing, and what its answer means.
 use mathlib.Core.Path.{_≡_, refl, sym, _∙_}
 use mathlib.Core.Bool.{Bool, true, false, _&&_, false≢true}
+use mathlib.Core.Logic.{_↔_}
 use mathlib.Core.List.{List, [], _∷_}
 use Prim.Native.Nat.{ℕ, _+_, _<_, _≤_}
 use native.Mathlib.Numerals.{add-one}
@@ -72,3 +73,6 @@ pub increasing-rises : (s : List ℕ) → Increasing s → rises s ≡ true
 unfolding rises
 increasing-rises [] i = refl
 increasing-rises (x ∷ xs) i = above-risesFrom x xs (i .0) (i .1)
+
+pub rises-iff : (s : List ℕ) → (rises s ≡ true) ↔ Increasing s
+rises-iff s = (rises-increasing s, increasing-rises s)

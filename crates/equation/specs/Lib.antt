@@ -2,3 +2,4 @@ pub mod Increase
 pub mod Merging
 pub mod Sums
 pub mod AddFits
+pub mod Common
