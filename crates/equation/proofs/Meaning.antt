@@ -1,5 +1,5 @@
 -- What the sum means: it is the sum of the two equations, and is met exactly where they agree.
-use mathlib.Core.Path.{_≡_, sym, ap, ap₂, _∙_, subst}
+use mathlib.Core.Path.{_≡_, sym, ap, _∙_, subst}
 use mathlib.Core.Logic.{_↔_}
 use mathlib.Core.List.{List}
 use Prim.Native.Nat.{ℕ, _+_, _≤_, _<_}
@@ -7,9 +7,9 @@ use native.Mathlib.Omega.{arith}
 use borrow.Author.Tests.{le-leb, lt-leb}
 use lib.ListN.{length}
 use lib.Bits.{bitXor}
-use Rattle.gf2.specs.Equation.{Equation, eqn, Increasing, Meets, evalVars, symDiff, sum}
-use Rattle.gf2.proofs.XorLaws.{xor-cancel-left}
-use Rattle.gf2.proofs.SymDiff.{evalVars-symDiff, length-symDiff-le}
+use Rattle.gf2.specs.Equation.{Equation, eqn, Increasing, Meets, symDiff, sum}
+use Rattle.gf2.proofs.Sums.{meets-sum, meets-other}
+use Rattle.gf2.proofs.SymDiff.{length-symDiff-le}
 use Rattle.areas.specs.Stretch.{stretch}
 use Rattle.areas.specs.Rows.{padded}
 use Rattle.areas.proofs.Stretch.{stretch-put-within}
@@ -44,16 +44,8 @@ sum-is-sum l r lc rc out room =
     (stretch-put-within 0 (length (symDiff l r)) 0 (padded (length l + length r) (symDiff l r)) out (omega arith) (omega arith) (omega arith) ∙ stretch-padded (length l + length r) (symDiff l r))
 
 -- values that meet one of two equations meet their sum exactly where they meet the other
-pub sum-meets : (x : List ℕ) (e f : Equation) → Meets x e → Meets x f → Meets x (sum e f)
-sum-meets x e f h k = evalVars-symDiff (e .vars) (f .vars) x ∙ ap₂ bitXor h k
-
-pub sum-met : (x : List ℕ) (e f : Equation) → Meets x e → Meets x (sum e f) → Meets x f
-sum-met x e f h k =
-    xor-cancel-left (e .c) (evalVars (f .vars) x) (f .c) (ap (λ (v : ℕ). bitXor v (evalVars (f .vars) x)) (sym h) ∙ sym (evalVars-symDiff (e .vars) (f .vars) x) ∙ k)
-
--- the same of a call on two increasing lists
 pub sumCall-meets : (x l r : List ℕ) (lc rc : ℕ) (out : List ℕ) → length l ≤ maxListed → length r ≤ maxListed → Increasing l → Increasing r
     → length l + length r ≤ length out → Meets x (eqn l lc) → (Meets x (summedEquation (sumCall l r lc rc out)) ↔ Meets x (eqn r rc))
 sumCall-meets x l r lc rc out hl hr il ir room h =
     let e : summedEquation (sumCall l r lc rc out) ≡ sum (eqn l lc) (eqn r rc) = ap summedEquation (sum-made l r lc rc out hl hr il ir room) ∙ sum-is-sum l r lc rc out room in
-    subst (λ (q : Equation). Meets x q ↔ Meets x (eqn r rc)) (sym e) ((λ k. sum-met x (eqn l lc) (eqn r rc) h k), (λ k. sum-meets x (eqn l lc) (eqn r rc) h k))
+    subst (λ (q : Equation). Meets x q ↔ Meets x (eqn r rc)) (sym e) ((λ k. meets-other x (eqn l lc) (eqn r rc) h k), (λ k. meets-sum x (eqn l lc) (eqn r rc) h k))

@@ -6,7 +6,7 @@ use Prim.Native.Nat.{ℕ}
 use lib.Bits.{bitXor}
 use Rattle.gf2.specs.Equation.{Equation, Each, evalVars, Meets, sum}
 use Rattle.gf2.specs.Span.{Cancels, InSpan}
-use Rattle.gf2.proofs.XorLaws.{xor-cancel-right}
+use Rattle.gf2.proofs.XorLaws.{xor-cancel-left, xor-cancel-right}
 use Rattle.gf2.proofs.SymDiff.{evalVars-symDiff}
 use Rattle.gf2.proofs.Spans.{span-sum, empty-row-cancels}
 use mathlib.Core.Bool.{Bool}
@@ -18,6 +18,10 @@ meets-sum x r q h k = evalVars-symDiff (r .vars) (q .vars) x ∙ ap₂ bitXor h 
 pub meets-part : (x : List ℕ) (r q : Equation) → Meets x (sum r q) → Meets x q → Meets x r
 meets-part x r q h k =
     xor-cancel-right (q .c) (evalVars (r .vars) x) (r .c) (ap (bitXor (evalVars (r .vars) x)) (sym k) ∙ sym (evalVars-symDiff (r .vars) (q .vars) x) ∙ h)
+
+pub meets-other : (x : List ℕ) (r q : Equation) → Meets x r → Meets x (sum r q) → Meets x q
+meets-other x r q h k =
+    xor-cancel-left (r .c) (evalVars (q .vars) x) (q .c) (ap (λ v. bitXor v (evalVars (q .vars) x)) (sym h) ∙ sym (evalVars-symDiff (r .vars) (q .vars) x) ∙ k)
 
 -- what two equations have, their sum has
 abbrev pub Closed : (Equation → Type 0) → Type 0
