@@ -1,0 +1,1 @@
+// Rows of a system in lent memory.
