@@ -16,7 +16,7 @@ use Rattle.gf2.proofs.Each.{each-at, each-set}
 use Rattle.gf2.proofs.SymDiff.{rising-length}
 use Rattle.answers.specs.Sizes.{sparseNumbers, sparseWords}
 use Rattle.rows.specs.Picture.{varsOf, lengthOf, constantOf, picture, Drawn, Kept, tab, slot, rowsOf, Held, Became, rowAt, swapped, added}
-use Rattle.rows.proofs.Put.{parts, length-parts, parts-put, parts-stretch, parts-first, parts-length, parts-set-length, parts-scratch, map-set}
+use Rattle.rows.proofs.Put.{parts, length-parts, parts-put, parts-stretch, parts-first, parts-length, parts-set-length, parts-exchanged, parts-scratch, map-set}
 
 -- ---- the picture and its parts
 
@@ -132,12 +132,18 @@ module _ {n m : ℕ} {rows : List Equation} {rest rest′ numbers words : List �
         (set (set words i (rowAt rows j .c)) j (rowAt rows i .c))
   exchange-rows i j k h l hi hj g =
       let hm : i < m = omega arith in
-      let ne : i ≢ j = omega arith in
+      let ne : j ≢ i = omega arith in
+      let li : ℕ = length (rowAt rows i .vars) in
+      let lj : ℕ = length (rowAt rows j .vars) in
+      let vss : List (List ℕ) = map varsOf rows in
+      let now-i : Narrow n (set vss j (rowAt rows i .vars)) = narrow-set n j (rowAt rows i .vars) vss (row-narrow i hm) narrow in
+      let now : Narrow n (set (set vss j (rowAt rows i .vars)) i (rowAt rows j .vars)) = narrow-set n i (rowAt rows j .vars) (set vss j (rowAt rows i .vars)) (row-narrow j l) now-i in
+      let long : length (set (set vss j (rowAt rows i .vars)) i (rowAt rows j .vars)) ≡ m = simp length-set many in
       draw n m (swapped i j rows) rest rest′ _ _
-      (rw (row-front i hm k hi g, row-front j l k hj g, as-parts, put-j k l hi hj g, put-i k h l hi hj g, set-i k h l hi hj g, set-j k h l hi hj g)
-      (ap₂ (λ (a : List (List ℕ)) (b : List ℕ). parts n a b ++ rest)
-        (set-comm (map varsOf rows) j i (rowAt rows i .vars) (rowAt rows j .vars) (λ e. ne (sym e)) ∙ sym (two varsOf))
-        (sym (two lengthOf))))
+      (rw (as-parts, parts-exchanged n m vss (map lengthOf rows) rest narrow many all i hm j k h l (rw (vars-at rows i) hi) (rw (vars-at rows j) hj) g, vars-at rows i, vars-at rows j,
+        parts-set-length n m (set (set vss j (rowAt rows i .vars)) i (rowAt rows j .vars)) (map lengthOf rows) rest now long all i hm lj,
+        parts-set-length n m (set (set vss j (rowAt rows i .vars)) i (rowAt rows j .vars)) (set (map lengthOf rows) i lj) rest now long (length-set (map lengthOf rows) i lj ∙ all) j l li,
+        two varsOf, two lengthOf, set-comm vss j i (rowAt rows i .vars) (rowAt rows j .vars) ne))
       (rw (d .words-are, set-append-left (map constantOf rows) rest′ i (rowAt rows j .c) (omega (arith, constants)),
         set-append-left (set (map constantOf rows) i (rowAt rows j .c)) rest′ j (rowAt rows i .c) (rw length-set (omega (arith, constants))), two constantOf))
       (each-set (λ e. Rising 0 n (e .vars)) (set rows i (rowAt rows j)) j (rowAt rows i) (row-rising i hm) (each-set (λ e. Rising 0 n (e .vars)) rows i (rowAt rows j) (row-rising j l) (d .rising)))
@@ -145,48 +151,6 @@ module _ {n m : ℕ} {rows : List Equation} {rest rest′ numbers words : List �
     where
       two : {B : Type 0} (f : Equation → B) → map f (swapped i j rows) ≡ set (set (map f rows) i (f (rowAt rows j))) j (f (rowAt rows i))
       two f = map-set f (set rows i (rowAt rows j)) j (rowAt rows i) ∙ ap (λ l. set l j (f (rowAt rows i))) (map-set f rows i (rowAt rows j))
-
-      vss : List (List ℕ)
-      vss = map varsOf rows
-
-      at-j : List (List ℕ)
-      at-j = set (map varsOf rows) j (rowAt rows i .vars)
-
-      at-i : List (List ℕ)
-      at-i = set (set (map varsOf rows) j (rowAt rows i .vars)) i (rowAt rows j .vars)
-
-      put-j : (k : ℕ) → j < m → length (rowAt rows i .vars) ≤ k → length (rowAt rows j .vars) ≤ k → k ≤ n
-          → put (j * n) (padded k (rowAt rows i .vars)) (parts n (map varsOf rows) (map lengthOf rows) ++ rest) ≡ parts n at-j (map lengthOf rows) ++ rest
-      put-j k l hi hj g = parts-put n m (map varsOf rows) (map lengthOf rows) rest narrow many all j l k (rowAt rows i .vars) hi (rw (vars-at rows j) hj) g
-
-      narrow-j : Narrow n at-j
-      narrow-j = narrow-set n j (rowAt rows i .vars) (map varsOf rows) (row-narrow i (omega arith)) narrow
-
-      many-j : length at-j ≡ m
-      many-j = length-set (map varsOf rows) j (rowAt rows i .vars) ∙ many
-
-      still-i : i < j → getD at-j i [] ≡ rowAt rows i .vars
-      still-i h = let ne : i ≢ j = omega arith in getD-set-other (map varsOf rows) j i (rowAt rows i .vars) [] ne ∙ vars-at rows i
-
-      put-i : (k : ℕ) → i < j → j < m → length (rowAt rows i .vars) ≤ k → length (rowAt rows j .vars) ≤ k → k ≤ n
-          → put (i * n) (padded k (rowAt rows j .vars)) (parts n at-j (map lengthOf rows) ++ rest) ≡ parts n at-i (map lengthOf rows) ++ rest
-      put-i k h l hi hj g = parts-put n m at-j (map lengthOf rows) rest narrow-j many-j all i (omega arith) k (rowAt rows j .vars) hj (rw (still-i h) hi) g
-
-      narrow-i : Narrow n at-i
-      narrow-i = narrow-set n i (rowAt rows j .vars) at-j (row-narrow j (omega arith)) narrow-j
-
-      many-i : length at-i ≡ m
-      many-i = length-set at-j i (rowAt rows j .vars) ∙ many-j
-
-      set-i : (k : ℕ) → i < j → j < m → length (rowAt rows i .vars) ≤ k → length (rowAt rows j .vars) ≤ k → k ≤ n
-          → set (parts n at-i (map lengthOf rows) ++ rest) (m * n + n + i) (length (rowAt rows j .vars)) ≡ parts n at-i (set (map lengthOf rows) i (length (rowAt rows j .vars))) ++ rest
-      set-i k h l hi hj g = parts-set-length n m at-i (map lengthOf rows) rest narrow-i many-i all i (omega arith) (length (rowAt rows j .vars))
-
-      set-j : (k : ℕ) → i < j → j < m → length (rowAt rows i .vars) ≤ k → length (rowAt rows j .vars) ≤ k → k ≤ n
-          → set (parts n at-i (set (map lengthOf rows) i (length (rowAt rows j .vars))) ++ rest) (m * n + n + j) (length (rowAt rows i .vars))
-            ≡ parts n at-i (set (set (map lengthOf rows) i (length (rowAt rows j .vars))) j (length (rowAt rows i .vars))) ++ rest
-      set-j k h l hi hj g =
-          parts-set-length n m at-i (set (map lengthOf rows) i (length (rowAt rows j .vars))) rest narrow-i many-i (length-set (map lengthOf rows) i (length (rowAt rows j .vars)) ∙ all) j l (length (rowAt rows i .vars))
 
   -- ---- past the room
 

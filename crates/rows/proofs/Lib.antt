@@ -1,2 +1,3 @@
 pub mod Put
 pub mod Holding
+pub mod Swapping
