@@ -1,2 +1,5 @@
 pub mod Cases
 pub mod Loops
+pub mod Backward
+pub mod Forward
+pub mod Rounds

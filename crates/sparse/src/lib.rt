@@ -1,1 +1,3 @@
 // Sparse Gaussian elimination over two elements.
+pub mod back;
+pub mod echelon;
