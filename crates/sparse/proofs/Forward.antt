@@ -42,6 +42,10 @@ module _ {n m : ℕ} {rows : List Equation} {rest rest′ numbers words : List �
     pub first-in : getD numbers (m * n + n + i) 0 ≢ 0 → i * n < m * n
     first-in f = let g = full f in omega (arith, row-narrow d i h, row-before i m n h)
 
+    -- where row j begins
+    pub begin-in : getD numbers (m * n + n + i) 0 ≢ 0 → (j : ℕ) → j < m → j * n < m * n
+    begin-in f j l = let g = full f in omega (arith, row-narrow d i h, row-before j m n l)
+
   module _ (i j : ℕ) (h : i < j) (l : j < m) where
     i-in : i < m
     i-in = omega arith

@@ -21,3 +21,79 @@ pub enum Reduction {
     Reduced,
 }
 
+// Row `i` becomes its sum with row `j`.
+pub fn add_rows(numbers: &mut [u32], words: &mut [u64], n: usize, m: usize, i: usize, j: usize)
+    requires { ⌜ Held n m (now numbers) (now words) × (i < j) × (j < m) × (n ≤ maxVariables) ⌝ }
+    ensures { λ _. ⌜ Became n m (now (numbers .entry)) (now (words .entry)) (added i j (rowsOf n m (now (numbers .entry)) (now (words .entry)))) (now (numbers .exit)) (now (words .exit)) ⌝ }
+{
+    words[i] = words[j];
+}
+
+// Row `i` is a sum: where its first variable is above that of row `j`, the two change places.
+pub fn summed_rows(numbers: &mut [u32], words: &mut [u64], n: usize, m: usize, i: usize, j: usize) -> Met
+    requires { ⌜ Held n m (now numbers) (now words) × (i < j) × (j < m) ⌝ }
+    ensures { λ r. ⌜ Meets summedWith n m i j (now (numbers .entry)) (now (words .entry)) (now (numbers .exit)) (now (words .exit)) r ⌝ }
+{
+    if numbers[m * n + n + i] == 0 {
+        if words[i] != 0 {
+            return Met::Clash;
+        }
+        return Met::Identity;
+    }
+    let u = numbers[i * n];
+    let v = numbers[j * n];
+    if v < u {
+        rows::swap_rows(numbers, words, n, m, i, j);
+        return Met::Both;
+    }
+    Met::Both
+}
+
+// Row `i` meets the later row `j`.
+pub fn meet_rows(numbers: &mut [u32], words: &mut [u64], n: usize, m: usize, i: usize, j: usize) -> Met
+    requires { ⌜ Held n m (now numbers) (now words) × (i < j) × (j < m) × (n ≤ maxVariables) ⌝ }
+    ensures { λ r. ⌜ Meets meeting n m i j (now (numbers .entry)) (now (words .entry)) (now (numbers .exit)) (now (words .exit)) r ⌝ }
+{
+    if numbers[m * n + n + j] == 0 {
+        if words[j] != 0 {
+            return Met::Clash;
+        }
+        return Met::Both;
+    }
+    if numbers[m * n + n + i] == 0 {
+        return Met::Both;
+    }
+    let u = numbers[i * n];
+    let v = numbers[j * n];
+    if u < v {
+        return Met::Both;
+    }
+    if v < u {
+        rows::swap_rows(numbers, words, n, m, i, j);
+        return Met::Both;
+    }
+    add_rows(numbers, words, n, m, i, j);
+    summed_rows(numbers, words, n, m, i, j)
+}
+
+// One outer row: row `i` meets each later row of the first `d`.
+pub fn outer_row(numbers: &mut [u32], words: &mut [u64], n: usize, m: usize, d: usize, i: usize) -> Reduction
+    requires { ⌜ Held n m (now numbers) (now words) × (i < d) × (d ≤ m) × (n ≤ maxVariables) ⌝ }
+    ensures { λ r. ⌜ Reduces (outerRow i) n m d (now (numbers .entry)) (now (words .entry)) (now (numbers .exit)) (now (words .exit)) r ⌝ }
+{
+    if numbers[m * n + n + i] == 0 {
+        if words[i] != 0 {
+            return Reduction::Unsolvable;
+        }
+        return Reduction::Reduced;
+    }
+    let mut j = i + 1;
+    while j < d {
+        match meet_rows(numbers, words, n, m, i, j) {
+            Met::Clash => return Reduction::Unsolvable,
+            Met::Identity => return Reduction::Reduced,
+            Met::Both => j += 1,
+        }
+    }
+    Reduction::Reduced
+}
