@@ -1,3 +1,4 @@
 pub mod Put
 pub mod Holding
 pub mod Swapping
+pub mod Adding

@@ -30,3 +30,16 @@ pub fn swap_rows(numbers: &mut [u32], words: &mut [u64], n: usize, m: usize, i: 
     words[i] = words[j];
     words[j] = c;
 }
+
+// Row `i` becomes its sum with row `j`.
+pub fn add_rows(numbers: &mut [u32], words: &mut [u64], n: usize, m: usize, i: usize, j: usize)
+    requires { ⌜ Held n m (now numbers) (now words) × (i < j) × (j < m) × (n ≤ maxVariables) ⌝ }
+    ensures { λ _. ⌜ Became n m (now (numbers .entry)) (now (words .entry)) (added i j (rowsOf n m (now (numbers .entry)) (now (words .entry)))) (now (numbers .exit)) (now (words .exit)) ⌝ }
+{
+    let lens = m * n + n;
+    let li = numbers[lens + i] as usize;
+    let lj = numbers[lens + j] as usize;
+    let k = equation::rows::add_into(numbers, n, i * n, li, j * n, lj, m * n);
+    numbers[lens + i] = k as u32;
+    words[i] = words[i] ^ words[j];
+}

@@ -2,7 +2,7 @@
 ghost use mathlib.Core.Path.{_≡_};
 ghost use Prim.Native.Nat.{_+_, _≤_, _<_};
 ghost use Rattle.answers.specs.Sizes.{maxVariables};
-ghost use Rattle.rows.specs.Picture.{Held, Became, rowsOf, added};
+ghost use Rattle.rows.specs.Picture.{Held};
 ghost use Rattle.sparse.specs.Eliminate.{meeting, outerRow, echelonForm};
 ghost use Rattle.sparse.specs.Reduce.{Meets, Reduces, summedWith};
 
@@ -19,14 +19,6 @@ pub enum Met {
 pub enum Reduction {
     Unsolvable,
     Reduced,
-}
-
-// Row `i` becomes its sum with row `j`.
-pub fn add_rows(numbers: &mut [u32], words: &mut [u64], n: usize, m: usize, i: usize, j: usize)
-    requires { ⌜ Held n m (now numbers) (now words) × (i < j) × (j < m) × (n ≤ maxVariables) ⌝ }
-    ensures { λ _. ⌜ Became n m (now (numbers .entry)) (now (words .entry)) (added i j (rowsOf n m (now (numbers .entry)) (now (words .entry)))) (now (numbers .exit)) (now (words .exit)) ⌝ }
-{
-    words[i] = words[j];
 }
 
 // Row `i` is a sum: where its first variable is above that of row `j`, the two change places.
@@ -72,7 +64,7 @@ pub fn meet_rows(numbers: &mut [u32], words: &mut [u64], n: usize, m: usize, i: 
         rows::swap_rows(numbers, words, n, m, i, j);
         return Met::Both;
     }
-    add_rows(numbers, words, n, m, i, j);
+    rows::add_rows(numbers, words, n, m, i, j);
     summed_rows(numbers, words, n, m, i, j)
 }
 
