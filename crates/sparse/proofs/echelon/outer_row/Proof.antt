@@ -38,15 +38,15 @@ outer-row-spec =
     (λ c. search needs)  -- enum-told
     (λ c. search needs)  -- same-length
     (λ c. search needs)  -- same-length-2
-    (λ c. ?)  -- returns-3
+    (λ c. let l = c .before .before .before .before .before .before .before .before .before .before in round-clash (l .loop .inv .0) (c .before .before .before .before .before .before .before .before .before .loop-test .taken) (c .before .before .before .before .before .before .meet-rows .ensures) (c .enum-told .given .1))  -- returns-3
     (λ c. search needs)  -- enum-told-2
     (λ c. search needs)  -- same-length-3
     (λ c. search needs)  -- same-length-4
-    (λ c. ?)  -- returns-4
+    (λ c. let l = c .before .before .before .before .before .before .before .before .before .before in round-identity (l .loop .inv .0) (c .before .before .before .before .before .before .before .before .before .loop-test .taken) (c .before .before .before .before .before .before .meet-rows .ensures) (c .enum-told2 .given .1))  -- returns-4
     (λ c. search needs)  -- enum-told-3
     (λ c. search needs)  -- add-j-2
     (λ c. search needs)  -- loop-less
-    (λ c. ?)  -- loop-again
+    (λ c. let l = c .before .before .before .before .before .before .before .before .before .before in (round-turn (l .loop .inv .0) (c .before .before .before .before .before .before .before .before .before .loop-test .taken) (c .before .before .before .before .before .before .meet-rows .ensures) (c .enum-told3 .given .1), search needs, search needs))  -- loop-again
     (λ c. search needs)  -- same-length-5
     (λ c. search needs)  -- same-length-6
     (λ c. round-end (c .before .loop .inv .0) (c .loop-test .left)))
