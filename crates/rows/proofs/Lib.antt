@@ -2,3 +2,4 @@ pub mod Put
 pub mod Holding
 pub mod Swapping
 pub mod Adding
+pub mod Loading
