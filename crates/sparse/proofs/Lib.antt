@@ -3,3 +3,4 @@ pub mod Loops
 pub mod Backward
 pub mod Forward
 pub mod Rounds
+pub mod Whole
