@@ -43,13 +43,16 @@ drop-cleared : (room : ℕ) (l : List ℕ) → drop room (cleared room l) ≡ dr
 unfolding cleared
 drop-cleared room l = drop-at (replicate room 0) (drop room l) room (length-replicate room 0)
 
+-- the loop begins where the room has been zeroed
 pub loading-begin : (n m : ℕ) (es : List Equation) (numbers words numbers′ words′ : List ℕ) → length es ≡ m → numbers′ ≡ cleared (sparseNumbers n m) numbers → words′ ≡ cleared (sparseWords m) words
-    → Loading n m es (drop (sparseNumbers n m) numbers) (drop (sparseWords m) words) numbers′ words′ 0
+    → Loading n m es (drop (sparseNumbers n m) numbers′) (drop (sparseWords m) words′) numbers′ words′ 0
 loading-begin n m es numbers words numbers′ words′ many a w =
     record {
-      drawn = subst (λ (r : List Equation). Drawn n m r (drop (sparseNumbers n m) numbers) (drop (sparseWords m) words) numbers′ words′)
+      drawn = subst (λ (r : List Equation). Drawn n m r (drop (sparseNumbers n m) numbers′) (drop (sparseWords m) words′) numbers′ words′)
           (ap (λ (k : ℕ). replicate k (eqn [] 0)) (sym (sub-zero m)))
-          (subst₂ (λ (x y : List ℕ). Drawn n m (replicate m (eqn [] 0)) (drop (sparseNumbers n m) numbers) (drop (sparseWords m) words) x y) (sym a) (sym w) (blank-drawn n m numbers words));
+          (subst₂ (λ (x y : List ℕ). Drawn n m (replicate m (eqn [] 0)) (drop (sparseNumbers n m) x) (drop (sparseWords m) y) x y) (sym a) (sym w)
+          (subst₂ (λ (x y : List ℕ). Drawn n m (replicate m (eqn [] 0)) x y (cleared (sparseNumbers n m) numbers) (cleared (sparseWords m) words))
+          (sym (drop-cleared (sparseNumbers n m) numbers)) (sym (drop-cleared (sparseWords m) words)) (blank-drawn n m numbers words)));
       within = omega arith;
       many = many;
     }
@@ -105,7 +108,7 @@ pub equation-rising : {n m : ℕ} {starts vars constants : List ℕ} → Fits n 
 unfolding equationAt stretch
 equation-rising f i h = f .rising i h
 
--- the loop begins where the room has been zeroed
+-- past the room nothing was written, not even where it was zeroed
 pub loaded-all : {n m : ℕ} {es : List Equation} (numbers₀ words₀ : List ℕ) {rest rest′ numbers words : List ℕ} → rest ≡ cleared (sparseNumbers n m) numbers₀ → rest′ ≡ cleared (sparseWords m) words₀
     → Drawn n m es (drop (sparseNumbers n m) rest) (drop (sparseWords m) rest′) numbers words → Became n m numbers₀ words₀ es numbers words
 loaded-all {n} {m} {es} numbers₀ words₀ {rest} {rest′} {numbers} {words} a w d =

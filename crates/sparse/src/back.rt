@@ -60,3 +60,16 @@ pub fn back_substitution(numbers: &[u32], words: &[u64], n: usize, m: usize, d: 
         i -= 1;
     }
 }
+
+// What is left of the first `d` rows is checked, and then solved; the solution is written only where there is one.
+pub fn finish_rows(numbers: &[u32], words: &[u64], n: usize, m: usize, d: usize, solution: &mut [u64]) -> Reduction
+    requires { ⌜ Held n m (now numbers) (now words) × (d ≤ m) × (length (now solution) ≡ n) ⌝ }
+    ensures { λ r. ⌜ FinishedBy (finish n (take d (rowsOf n m (now (numbers .entry)) (now (words .entry))))) (now (solution .entry)) (now (solution .exit)) r ⌝ }
+{
+    if any_unsolvable(numbers, words, n, m, d) {
+        return Reduction::Unsolvable;
+    }
+    areas::zero::zero_words(solution, 0, n);
+    back_substitution(numbers, words, n, m, d, solution);
+    Reduction::Reduced
+}

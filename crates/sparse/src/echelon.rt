@@ -89,3 +89,18 @@ pub fn outer_row(numbers: &mut [u32], words: &mut [u64], n: usize, m: usize, d: 
     }
     Reduction::Reduced
 }
+
+// The first `d` rows to echelon form: every row but the last is an outer row.
+pub fn echelon_form(numbers: &mut [u32], words: &mut [u64], n: usize, m: usize, d: usize) -> Reduction
+    requires { ⌜ Held n m (now numbers) (now words) × (d ≤ m) × (n ≤ maxVariables) ⌝ }
+    ensures { λ r. ⌜ Reduces echelonForm n m d (now (numbers .entry)) (now (words .entry)) (now (numbers .exit)) (now (words .exit)) r ⌝ }
+{
+    let mut i = 0;
+    while i + 1 < d {
+        match outer_row(numbers, words, n, m, d, i) {
+            Reduction::Unsolvable => return Reduction::Unsolvable,
+            Reduction::Reduced => i += 1,
+        }
+    }
+    Reduction::Reduced
+}
