@@ -2,3 +2,5 @@
 pub mod back;
 pub mod echelon;
 mod load;
+pub mod solve;
+
