@@ -179,16 +179,17 @@ module _ (n m : ℕ) (es : List Equation) (numbers words numbers₁ words₁ num
 
   abbrev Ends : Answer → Result (List ℕ) → List ℕ → List ℕ → Type 0
   Ends answer o x x′ =
-      (answer ≡ ran (sparseNumbers n m) (sparseWords m) o x numbers words .answer) × (x′ ≡ ran (sparseNumbers n m) (sparseWords m) o x numbers words .solution)
-      × (numbers₃ ≡ ran (sparseNumbers n m) (sparseWords m) o x numbers words .numbers) × (words₃ ≡ ran (sparseNumbers n m) (sparseWords m) o x numbers words .words)
+      (answer ≡ ran (sparseNumbers n m) (sparseWords m) o x numbers words .answer)
+      × ((x′ ≡ ran (sparseNumbers n m) (sparseWords m) o x numbers words .solution)
+      × ((numbers₃ ≡ ran (sparseNumbers n m) (sparseWords m) o x numbers words .numbers) × (words₃ ≡ ran (sparseNumbers n m) (sparseWords m) o x numbers words .words)))
 
   ends-refused : (o : Result (List ℕ)) (x x′ : List ℕ) {r : Reduction} → FinishedBy o x x′ r → r ≡ Unsolvable → Ends Refusal o x x′
-  ends-refused o x x′ (left e q) p = rw e (refl, q, numbers-end, words-end)
+  ends-refused o x x′ (left e q) p = rw e (refl, (q, (numbers-end, words-end)))
   ends-refused o x x′ (filled e) p = absurd (let z : _≡_ {A = ℕ} 0 1 = cc in omega arith)
 
   ends-solved : (o : Result (List ℕ)) (x x′ : List ℕ) {r : Reduction} → FinishedBy o x x′ r → r ≡ Reduced → Ends Solved o x x′
   ends-solved o x x′ (left e q) p = absurd (let z : _≡_ {A = ℕ} 0 1 = cc in omega arith)
-  ends-solved o x x′ (filled e) p = rw e (refl, refl, numbers-end, words-end)
+  ends-solved o x x′ (filled e) p = rw e (refl, (refl, (numbers-end, words-end)))
 
   module _ (x x′ : List ℕ) {r : Reduction} (f : FinishedBy (gaussianElimination n (take m (rowsOf n m numbers₁ words₁))) x x′ r) where
     said : FinishedBy (gaussianElimination n es) x x′ r
