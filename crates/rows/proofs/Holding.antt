@@ -119,9 +119,13 @@ module _ {n m : ℕ} {rows : List Equation} {rest rest′ numbers words : List �
         → Drawn n m (set rows i e) rest rest′ (set (put (i * n) (padded k (e .vars)) numbers) (m * n + n + i) (length (e .vars))) (set words i (e .c))
     store e k r hv hu g =
         draw n m (set rows i e) rest rest′ _ _
-        (rw (as-parts, parts-put n m (map varsOf rows) (map lengthOf rows) rest narrow many all i h k (e .vars) hv (rw (vars-at rows i) hu) g,
+        (rw (
+          as-parts,
+          parts-put n m (map varsOf rows) (map lengthOf rows) rest narrow many all i h k (e .vars) hv (rw (vars-at rows i) hu) g,
           parts-set-length n m (set (map varsOf rows) i (e .vars)) (map lengthOf rows) rest (narrow-set n i (e .vars) (map varsOf rows) (omega arith) narrow) (length-set (map varsOf rows) i (e .vars) ∙ many) all i h (length (e .vars)),
-          map-set varsOf rows i e, map-set lengthOf rows i e))
+          map-set varsOf rows i e,
+          map-set lengthOf rows i e,
+        ))
         (rw (d .words-are, set-append-left (map constantOf rows) rest′ i (e .c) (omega (arith, constants)), map-set constantOf rows i e))
         (each-set (λ e. Rising 0 n (e .vars)) rows i e r (d .rising)) (length-set rows i e ∙ d .count)
 
@@ -129,7 +133,7 @@ module _ {n m : ℕ} {rows : List Equation} {rest rest′ numbers words : List �
 
   pub exchange-rows : (i j k : ℕ) → i < j → j < m → length (rowAt rows i .vars) ≤ k → length (rowAt rows j .vars) ≤ k → k ≤ n
       → Drawn n m (swapped i j rows) rest rest′ (set (set (exchanged (i * n) (j * n) k numbers) (m * n + n + i) (length (rowAt rows j .vars))) (m * n + n + j) (length (rowAt rows i .vars)))
-        (set (set words i (rowAt rows j .c)) j (rowAt rows i .c))
+      (set (set words i (rowAt rows j .c)) j (rowAt rows i .c))
   exchange-rows i j k h l hi hj g =
       let hm : i < m = omega arith in
       let ne : j ≢ i = omega arith in
@@ -140,12 +144,23 @@ module _ {n m : ℕ} {rows : List Equation} {rest rest′ numbers words : List �
       let now : Narrow n (set (set vss j (rowAt rows i .vars)) i (rowAt rows j .vars)) = narrow-set n i (rowAt rows j .vars) (set vss j (rowAt rows i .vars)) (row-narrow j l) now-i in
       let long : length (set (set vss j (rowAt rows i .vars)) i (rowAt rows j .vars)) ≡ m = simp length-set many in
       draw n m (swapped i j rows) rest rest′ _ _
-      (rw (as-parts, parts-exchanged n m vss (map lengthOf rows) rest narrow many all i hm j k h l (rw (vars-at rows i) hi) (rw (vars-at rows j) hj) g, vars-at rows i, vars-at rows j,
+      (rw (
+        as-parts,
+        parts-exchanged n m vss (map lengthOf rows) rest narrow many all i hm j k h l (rw (vars-at rows i) hi) (rw (vars-at rows j) hj) g,
+        vars-at rows i,
+        vars-at rows j,
         parts-set-length n m (set (set vss j (rowAt rows i .vars)) i (rowAt rows j .vars)) (map lengthOf rows) rest now long all i hm lj,
         parts-set-length n m (set (set vss j (rowAt rows i .vars)) i (rowAt rows j .vars)) (set (map lengthOf rows) i lj) rest now long (length-set (map lengthOf rows) i lj ∙ all) j l li,
-        two varsOf, two lengthOf, set-comm vss j i (rowAt rows i .vars) (rowAt rows j .vars) ne))
-      (rw (d .words-are, set-append-left (map constantOf rows) rest′ i (rowAt rows j .c) (omega (arith, constants)),
-        set-append-left (set (map constantOf rows) i (rowAt rows j .c)) rest′ j (rowAt rows i .c) (rw length-set (omega (arith, constants))), two constantOf))
+        two varsOf,
+        two lengthOf,
+        set-comm vss j i (rowAt rows i .vars) (rowAt rows j .vars) ne,
+      ))
+      (rw (
+        d .words-are,
+        set-append-left (map constantOf rows) rest′ i (rowAt rows j .c) (omega (arith, constants)),
+        set-append-left (set (map constantOf rows) i (rowAt rows j .c)) rest′ j (rowAt rows i .c) (rw length-set (omega (arith, constants))),
+        two constantOf,
+      ))
       (each-set (λ e. Rising 0 n (e .vars)) (set rows i (rowAt rows j)) j (rowAt rows i) (row-rising i hm) (each-set (λ e. Rising 0 n (e .vars)) rows i (rowAt rows j) (row-rising j l) (d .rising)))
       (length-set (set rows i (rowAt rows j)) j (rowAt rows i) ∙ length-set rows i (rowAt rows j) ∙ d .count)
     where

@@ -24,7 +24,7 @@ module _ {n m : ℕ} {rows : List Equation} {rest rest′ numbers words : List �
 
   pub swap-done : (numbers′ : List ℕ) → numbers′ ≡ exchanged (i * n) (j * n) k numbers
       → Drawn n m (swapped i j rows) rest rest′ (set (set numbers′ (m * n + n + i) (getD numbers (m * n + n + j) 0)) (m * n + n + j) (getD numbers (m * n + n + i) 0))
-        (set (set words i (getD words j 0)) j (getD words i 0))
+      (set (set words i (getD words j 0)) j (getD words i 0))
   swap-done numbers′ e =
       let a = row-length d i i-in in
       let b = row-length d j l in

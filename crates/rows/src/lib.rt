@@ -18,7 +18,15 @@ pub fn clear(numbers: &mut [u32], words: &mut [u64], n: usize, m: usize)
 }
 
 // Row `i`, which has no variables, becomes the equation of these variables and this constant.
-pub fn store_row(numbers: &mut [u32], words: &mut [u64], n: usize, m: usize, i: usize, vars: &[u32], c: u64)
+pub fn store_row(
+    numbers: &mut [u32],
+    words: &mut [u64],
+    n: usize,
+    m: usize,
+    i: usize,
+    vars: &[u32],
+    c: u64,
+)
     requires { ⌜ Held n m (now numbers) (now words) × (i < m) × (n ≤ maxVariables) ⌝ }
     requires { ⌜ length (rowAt (rowsOf n m (now numbers) (now words)) i .vars) ≡ 0 ⌝ }
     requires { ⌜ Rising 0 n (now vars) ⌝ }

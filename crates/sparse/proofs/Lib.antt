@@ -4,3 +4,4 @@ pub mod Backward
 pub mod Forward
 pub mod Rounds
 pub mod Whole
+pub mod Ladder

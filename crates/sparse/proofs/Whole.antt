@@ -159,9 +159,11 @@ module _ {n m d : ℕ} {rows : List Equation} {rest rest′ numbers words : List
   solve-done x x′ (refused e k) p f = absurd (let z : _≡_ {A = ℕ} 0 1 = cc in omega arith)
   solve-done {r} {r′} x x′ (reduced rows′ e k) p f =
       let all : length (rows′ ++ drop d rows) ≡ m = k .count in
-      let long : length rows′ ≡ d = omega (arith, length-append rows′ (drop d rows), length-drop d rows) in
-      (subst (λ (o : Result (List ℕ)). FinishedBy o x x′ r′)
-      (ap (λ (l : List Equation). finish n (take d l)) (rows-are k) ∙ ap (finish n) (take-at rows′ (drop d rows) d long) ∙ sym (whole-finish n (take d rows) rows′ e)) f, rest-kept k)
+      let long : length rows′ ≡ d = omega (arith, length-append rows′ (drop d rows), length-drop d rows) in (
+        subst (λ (o : Result (List ℕ)). FinishedBy o x x′ r′)
+            (ap (λ (l : List Equation). finish n (take d l)) (rows-are k) ∙ ap (finish n) (take-at rows′ (drop d rows) d long) ∙ sym (whole-finish n (take d rows) rows′ e)) f,
+        rest-kept k,
+      )
 
 -- ---- the run
 

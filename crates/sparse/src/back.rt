@@ -50,7 +50,14 @@ pub fn pin_row(numbers: &[u32], words: &[u64], n: usize, m: usize, i: usize, sol
 }
 
 // Back substitution, from row `d` - 1 to row 0.
-pub fn back_substitution(numbers: &[u32], words: &[u64], n: usize, m: usize, d: usize, solution: &mut [u64])
+pub fn back_substitution(
+    numbers: &[u32],
+    words: &[u64],
+    n: usize,
+    m: usize,
+    d: usize,
+    solution: &mut [u64],
+)
     requires { ⌜ Held n m (now numbers) (now words) × (d ≤ m) × (length (now solution) ≡ n) ⌝ }
     ensures { λ _. ⌜ now (solution .exit) ≡ backSub (take d (rowsOf n m (now (numbers .entry)) (now (words .entry)))) (now (solution .entry)) ⌝ }
 {
@@ -62,7 +69,14 @@ pub fn back_substitution(numbers: &[u32], words: &[u64], n: usize, m: usize, d: 
 }
 
 // What is left of the first `d` rows is checked, and then solved; the solution is written only where there is one.
-pub fn finish_rows(numbers: &[u32], words: &[u64], n: usize, m: usize, d: usize, solution: &mut [u64]) -> Reduction
+pub fn finish_rows(
+    numbers: &[u32],
+    words: &[u64],
+    n: usize,
+    m: usize,
+    d: usize,
+    solution: &mut [u64],
+) -> Reduction
     requires { ⌜ Held n m (now numbers) (now words) × (d ≤ m) × (length (now solution) ≡ n) ⌝ }
     ensures { λ r. ⌜ FinishedBy (finish n (take d (rowsOf n m (now (numbers .entry)) (now (words .entry))))) (now (solution .entry)) (now (solution .exit)) r ⌝ }
 {

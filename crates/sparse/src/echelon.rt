@@ -22,7 +22,14 @@ pub enum Reduction {
 }
 
 // Row `i` is a sum: where its first variable is above that of row `j`, the two change places.
-pub fn summed_rows(numbers: &mut [u32], words: &mut [u64], n: usize, m: usize, i: usize, j: usize) -> Met
+pub fn summed_rows(
+    numbers: &mut [u32],
+    words: &mut [u64],
+    n: usize,
+    m: usize,
+    i: usize,
+    j: usize,
+) -> Met
     requires { ⌜ Held n m (now numbers) (now words) × (i < j) × (j < m) ⌝ }
     ensures { λ r. ⌜ Meets summedWith n m i j (now (numbers .entry)) (now (words .entry)) (now (numbers .exit)) (now (words .exit)) r ⌝ }
 {
@@ -42,7 +49,14 @@ pub fn summed_rows(numbers: &mut [u32], words: &mut [u64], n: usize, m: usize, i
 }
 
 // Row `i` meets the later row `j`.
-pub fn meet_rows(numbers: &mut [u32], words: &mut [u64], n: usize, m: usize, i: usize, j: usize) -> Met
+pub fn meet_rows(
+    numbers: &mut [u32],
+    words: &mut [u64],
+    n: usize,
+    m: usize,
+    i: usize,
+    j: usize,
+) -> Met
     requires { ⌜ Held n m (now numbers) (now words) × (i < j) × (j < m) × (n ≤ maxVariables) ⌝ }
     ensures { λ r. ⌜ Meets meeting n m i j (now (numbers .entry)) (now (words .entry)) (now (numbers .exit)) (now (words .exit)) r ⌝ }
 {
@@ -69,7 +83,14 @@ pub fn meet_rows(numbers: &mut [u32], words: &mut [u64], n: usize, m: usize, i: 
 }
 
 // One outer row: row `i` meets each later row of the first `d`.
-pub fn outer_row(numbers: &mut [u32], words: &mut [u64], n: usize, m: usize, d: usize, i: usize) -> Reduction
+pub fn outer_row(
+    numbers: &mut [u32],
+    words: &mut [u64],
+    n: usize,
+    m: usize,
+    d: usize,
+    i: usize,
+) -> Reduction
     requires { ⌜ Held n m (now numbers) (now words) × (i < d) × (d ≤ m) × (n ≤ maxVariables) ⌝ }
     ensures { λ r. ⌜ Reduces (outerRow i) n m d (now (numbers .entry)) (now (words .entry)) (now (numbers .exit)) (now (words .exit)) r ⌝ }
 {
@@ -91,7 +112,13 @@ pub fn outer_row(numbers: &mut [u32], words: &mut [u64], n: usize, m: usize, d: 
 }
 
 // The first `d` rows to echelon form: every row but the last is an outer row.
-pub fn echelon_form(numbers: &mut [u32], words: &mut [u64], n: usize, m: usize, d: usize) -> Reduction
+pub fn echelon_form(
+    numbers: &mut [u32],
+    words: &mut [u64],
+    n: usize,
+    m: usize,
+    d: usize,
+) -> Reduction
     requires { ⌜ Held n m (now numbers) (now words) × (d ≤ m) × (n ≤ maxVariables) ⌝ }
     ensures { λ r. ⌜ Reduces echelonForm n m d (now (numbers .entry)) (now (words .entry)) (now (numbers .exit)) (now (words .exit)) r ⌝ }
 {
