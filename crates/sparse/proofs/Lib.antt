@@ -11,3 +11,4 @@ pub mod Forward
 pub mod Rounds
 pub mod Whole
 pub mod Ladder
+pub mod CallTheorems

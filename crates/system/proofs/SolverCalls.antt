@@ -48,7 +48,7 @@ module _ (run : ℕ → List Equation → Result (List ℕ)) (kn kw : ℕ → �
       (systemRules n (l .m) (l .starts) (l .vars) (l .constants))
 
   -- the lent system keeps its rules, and the run has what the solution slice holds
-  solved : (n : ℕ) (l : Lent) → call n l .answer ≡ Solved → Fits n (l .m) (l .starts) (l .vars) (l .constants) × (run n (system l) ≡ ok (call n l .solution))
+  pub solved : (n : ℕ) (l : Lent) → call n l .answer ≡ Solved → Fits n (l .m) (l .starts) (l .vars) (l .constants) × (run n (system l) ≡ ok (call n l .solution))
   solved n l e =
       let s = solved-call n (kn n (l .m) (length (l .vars))) (kw n (l .m) (length (l .vars))) (run n (system l)) (l .solution) (l .numbers) (l .words)
       (systemRules n (l .m) (l .starts) (l .vars) (l .constants)) (rules-early n (l .m) (l .starts) (l .vars) (l .constants)) e in
