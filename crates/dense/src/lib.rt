@@ -1,0 +1,1 @@
+// Dense Gaussian elimination over two elements.

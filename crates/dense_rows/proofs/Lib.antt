@@ -1,0 +1,4 @@
+pub mod BitLaws
+pub mod ColumnLaws
+pub mod StepLaws
+pub mod SearchLaws
