@@ -1,0 +1,6 @@
+pub mod Stretch
+pub mod Offsets
+pub mod Rows
+pub mod Zeroing
+pub mod Copying
+pub mod Exchanging
