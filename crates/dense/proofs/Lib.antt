@@ -1,1 +1,2 @@
+pub mod ColumnStep
 pub mod Examples

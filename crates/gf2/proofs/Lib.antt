@@ -10,3 +10,4 @@ pub mod Elimination
 pub mod Canon
 pub mod Existence
 pub mod Examples
+pub mod EachMap
