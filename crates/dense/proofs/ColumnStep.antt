@@ -10,11 +10,11 @@ use lib.Seq.{getD-set-same, lt-length-set}
 use Rattle.gf2.specs.Equation.{Equation, Each, xorBool, sum}
 use Rattle.gf2.proofs.Each.{each-at, each-map, each-set}
 use Rattle.gf2.proofs.EachMap.{each-of-map, each-from-map, each-unset, each-both}
-use Rattle.dense_rows.specs.Bits.{Row, hasBit, equationOf}
+use Rattle.dense_rows.specs.Bits.{Row, Clear, hasBit, equationOf}
 use Rattle.dense_rows.specs.Steps.{pivotFrom, fromWord, noRow, swapRows, xorFrom, clearRow}
 use Rattle.dense_rows.specs.declared.Pivot.{Pivot}
 use Rattle.dense_rows.specs.declared.Pivot.the-variants.{At, Nowhere}
-use Rattle.dense_rows.proofs.ColumnLaws.{Clear, clear-next}
+use Rattle.dense_rows.proofs.ColumnLaws.{clear-next}
 use Rattle.dense_rows.proofs.SearchLaws.{Found, at, nowhere, found}
 use Rattle.dense_rows.proofs.StepLaws.{Wide, wide-fromWord, wide-xorFrom, equation-fromWord, equation-xorFrom, hasBit-fromWord, hasBit-xorFrom, clearRow-cases}
 use Rattle.dense.specs.Eliminate.{Step, passed, taken, topped, column}

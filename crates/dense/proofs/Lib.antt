@@ -1,2 +1,5 @@
 pub mod ColumnStep
+pub mod WalkLaws
+pub mod BackLaws
+pub mod Theorems
 pub mod Examples

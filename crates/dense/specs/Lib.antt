@@ -1,2 +1,3 @@
 pub mod Eliminate
+pub mod Stairs
 pub mod Call

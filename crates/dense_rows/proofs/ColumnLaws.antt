@@ -14,7 +14,7 @@ use Rattle.gf2.proofs.Tests.{eqb-same, eqb-ne}
 use Rattle.gf2.proofs.SymDiff.{rising-from}
 use Rattle.gf2.proofs.VarLists.{above-not-listed, symDiff-unique}
 use Rattle.gf2.proofs.Order.{rising-increasing, rising-below}
-use Rattle.dense_rows.specs.Bits.{Row, bitAt, columnsFrom, columns, equationOf, xorWords}
+use Rattle.dense_rows.specs.Bits.{Row, bitAt, Clear, columnsFrom, columns, equationOf, xorWords}
 use Rattle.dense_rows.proofs.BitLaws.{bitAt-xor}
 
 -- ---- the cases
@@ -117,10 +117,6 @@ columnsFrom-add (suc j) k c words =
     rw (suc-add j k) (columns-cases (j + k) c words (λ l. l ≡ columnsFrom (suc j) c words ++ columnsFrom k (c + suc j) words)
     (λ e. rw (columns-set j c words e, add-suc c j, ← (suc-add c j)) (ap (λ (l : List ℕ). c ∷ l) ih))
     (λ e. rw (columns-unset j c words e, add-suc c j, ← (suc-add c j)) ih))
-
--- no column below c is set
-abbrev pub Clear : ℕ → List ℕ → Type 0
-Clear c words = (v : ℕ) → v < c → bitAt v words ≡ false
 
 pub columns-clear : (n : ℕ) (words : List ℕ) → Clear n words → columns n words ≡ []
 columns-clear n words f = columnsFrom-none n 0 words (λ v h l. f v (omega arith))

@@ -13,10 +13,10 @@ use lib.Dec.{eqb}
 use Rattle.gf2.specs.Equation.{Equation, Each, xorBool, sum}
 use Rattle.gf2.proofs.Each.{each-at}
 use Rattle.gf2.proofs.Tests.{xorBool-false, eqb-true}
-use Rattle.dense_rows.specs.Bits.{Row, bitAt, hasBit, columns, equationOf, xorWords}
+use Rattle.dense_rows.specs.Bits.{Row, bitAt, Clear, hasBit, columns, equationOf, xorWords}
 use Rattle.dense_rows.specs.Steps.{fromWord, noRow, swapRows, xorFrom, clearRow}
 use Rattle.dense_rows.proofs.BitLaws.{digit-cases, no-digits, getD-xorWords, bitAt-xor, bitAt-word}
-use Rattle.dense_rows.proofs.ColumnLaws.{Clear, columns-agree, columns-xor}
+use Rattle.dense_rows.proofs.ColumnLaws.{columns-agree, columns-xor}
 
 -- ---- lengths
 

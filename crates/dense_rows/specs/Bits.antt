@@ -1,7 +1,8 @@
 -- A row of bits: column c is bit c mod 64 of word c div 64. Its reading as an equation.
+use mathlib.Core.Path.{_≡_}
 use mathlib.Core.List.{List, [], _∷_, map}
 use mathlib.Core.Bool.{Bool, true, false}
-use Prim.Native.Nat.{ℕ, zero, suc, _/_, _%_, _^_}
+use Prim.Native.Nat.{ℕ, zero, suc, _/_, _%_, _^_, _<_}
 use lib.ListN.{getD}
 use lib.Bits.{bitXor}
 use lib.Dec.{eqb}
@@ -15,6 +16,10 @@ pub record Row : Type 0 where
 -- bit c mod 64 of word c div 64
 unfoldable pub bitAt : ℕ → List ℕ → Bool
 bitAt c words = eqb (getD words (c / 64) 0 / 2 ^ (c % 64) % 2) 1
+
+-- no column below c is set
+abbrev pub Clear : ℕ → List ℕ → Type 0
+Clear c words = (v : ℕ) → v < c → bitAt v words ≡ false
 
 -- has the row the column c?
 abbrev pub hasBit : ℕ → Row → Bool

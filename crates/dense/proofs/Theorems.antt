@@ -1,0 +1,1 @@
+-- Dense elimination solves, refuses, is canonical, isolated and narrow.
