@@ -2,3 +2,4 @@ pub mod BitLaws
 pub mod ColumnLaws
 pub mod StepLaws
 pub mod SearchLaws
+pub mod HeldLaws
