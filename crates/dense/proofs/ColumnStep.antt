@@ -32,7 +32,7 @@ pub data Stepped (c : ℕ) : List Row → Step → Type 0 where
   -- row j below the first has it
   later : {a : Row} {below : List Row} (j : ℕ) → j < length below → hasBit c (getD below j noRow) ≡ true
       → Stepped c (a ∷ below)
-        (taken (fromWord (c / 64) a (getD below j noRow)) (clearedBy c (fromWord (c / 64) a (getD below j noRow)) (set below j (fromWord (c / 64) (getD below j noRow) a))))
+      (taken (fromWord (c / 64) a (getD below j noRow)) (clearedBy c (fromWord (c / 64) a (getD below j noRow)) (set below j (fromWord (c / 64) (getD below j noRow) a))))
 
 pub stepped : (c : ℕ) (rest : List Row) → Stepped c rest (column c rest)
 unfolding column topped swapRows
@@ -96,9 +96,12 @@ module _ (w c : ℕ) (hc : c < 64 * w) where
       let d = getD below j noRow in
       let gd = each-at (Good w c) below noRow j h (g .1) in
       let p = good-fromWord a d (g .0) gd in
-      let b = bit-fromWord a d (g .0) gd e in
-      (p, b, each-of-map (clearRow c (fromWord (c / 64) a d)) (Good w c) (Good w (suc c)) (set below j (fromWord (c / 64) d a)) (λ r k. good-cleared (fromWord (c / 64) a d) r p b k)
-        (each-set (Good w c) below j (fromWord (c / 64) d a) (good-fromWord d a gd (g .0)) (g .1)))
+      let b = bit-fromWord a d (g .0) gd e in (
+        p,
+        b,
+        each-of-map (clearRow c (fromWord (c / 64) a d)) (Good w c) (Good w (suc c)) (set below j (fromWord (c / 64) d a)) (λ r k. good-cleared (fromWord (c / 64) a d) r p b k)
+            (each-set (Good w c) below j (fromWord (c / 64) d a) (good-fromWord d a gd (g .0)) (g .1)),
+      )
 
   -- ---- what sums of equations keep
 
@@ -126,18 +129,22 @@ module _ (w c : ℕ) (hc : c < 64 * w) where
       pub step-ahead : {rest : List Row} {s : Step} → Stepped c rest s → Each (Good w c) rest → Each Row-has rest → Ahead s
       step-ahead (pass f) g h = tt
       step-ahead (first {a} {below} e) g h =
-          let p = has-from a a (g .0) (g .0) (h .0) in
-          (p, each-of-map (clearRow c (fromWord (c / 64) a a)) (λ r. Good w c r × Row-has r) Row-has below
-            (λ r k. has-cleared (fromWord (c / 64) a a) r (good-fromWord a a (g .0) (g .0)) p k) (each-both (Good w c) Row-has below (g .1) (h .1)))
+          let p = has-from a a (g .0) (g .0) (h .0) in (
+            p,
+            each-of-map (clearRow c (fromWord (c / 64) a a)) (λ r. Good w c r × Row-has r) Row-has below
+                (λ r k. has-cleared (fromWord (c / 64) a a) r (good-fromWord a a (g .0) (g .0)) p k) (each-both (Good w c) Row-has below (g .1) (h .1)),
+          )
       step-ahead (later {a} {below} j l e) g h =
           let d = getD below j noRow in
           let gd = each-at (Good w c) below noRow j l (g .1) in
-          let p = has-from a d (g .0) gd (each-at Row-has below noRow j l (h .1)) in
-          (p, each-of-map (clearRow c (fromWord (c / 64) a d)) (λ r. Good w c r × Row-has r) Row-has (set below j (fromWord (c / 64) d a))
-            (λ r k. has-cleared (fromWord (c / 64) a d) r (good-fromWord a d (g .0) gd) p k)
-            (each-both (Good w c) Row-has (set below j (fromWord (c / 64) d a))
-              (each-set (Good w c) below j (fromWord (c / 64) d a) (good-fromWord d a gd (g .0)) (g .1))
-              (each-set Row-has below j (fromWord (c / 64) d a) (has-from d a gd (g .0) (h .0)) (h .1))))
+          let p = has-from a d (g .0) gd (each-at Row-has below noRow j l (h .1)) in (
+            p,
+            each-of-map (clearRow c (fromWord (c / 64) a d)) (λ r. Good w c r × Row-has r) Row-has (set below j (fromWord (c / 64) d a))
+                (λ r k. has-cleared (fromWord (c / 64) a d) r (good-fromWord a d (g .0) gd) p k)
+                (each-both (Good w c) Row-has (set below j (fromWord (c / 64) d a))
+                (each-set (Good w c) below j (fromWord (c / 64) d a) (good-fromWord d a gd (g .0)) (g .1))
+                (each-set Row-has below j (fromWord (c / 64) d a) (has-from d a gd (g .0) (h .0)) (h .1))),
+          )
 
     abbrev pub Behind : List Row → Step → Type 0
     Behind rest passed = Unit {0}
@@ -163,6 +170,6 @@ module _ (w c : ℕ) (hc : c < 64 * w) where
           let gd = each-at (Good w c) below noRow j l (g .1) in
           let gs = each-set (Good w c) below j x (good-fromWord d a gd (g .0)) (g .1) in
           let hs = each-from-map (clearRow c (fromWord (c / 64) a d)) (Good w c) Row-has Row-has (set below j x)
-              (λ r k q. has-uncleared (fromWord (c / 64) a d) r (good-fromWord a d (g .0) gd) p k q) gs h in
+          (λ r k q. has-uncleared (fromWord (c / 64) a d) r (good-fromWord a d (g .0) gd) p k q) gs h in
           let hx : Row-has x = subst Row-has (getD-set-same below j x noRow l) (each-at Row-has (set below j x) noRow j (lt-length-set below j x l) hs) in
           (has-of d a gd (g .0) hx, each-unset Row-has below j x noRow (has-of a d (g .0) gd p) hs)

@@ -1,34 +1,25 @@
 -- The call of dense elimination: the rules of what is lent, the answer, and what is left in every lent cell.
 use mathlib.Core.List.{List, [], _∷_}
 use mathlib.Core.Bool.{Bool, true, false, _&&_}
-use Prim.Native.Nat.{ℕ, suc, _-_, _*_, _^_, min}
+use Prim.Native.Nat.{ℕ, suc, _*_}
 use lib.ListN.{length}
-use lib.Dec.{leb, ltb}
+use lib.Dec.{leb}
 use Rattle.gf2.specs.Equation.{Equation}
 use Rattle.answers.specs.Sizes.{maxVariables, maxEquations, maxRowWords, denseNumbers, denseWords}
 use Rattle.answers.specs.Calls.{Call, pick, solverCall}
 use Rattle.answers.specs.declared.Answer.the-variants.{TooLarge, BadShape, BadEntry}
 use Rattle.answers.specs.declared.Rules.{Rules}
 use Rattle.answers.specs.declared.Rules.the-variants.{Kept, Broken}
-use Rattle.dense_rows.specs.Bits.{Row, equationsOf}
+use Rattle.dense_rows.specs.Bits.{Row, rowFits, equationsOf}
 use Rattle.dense_rows.specs.Rows.{rowsOf}
 use Rattle.dense.specs.Eliminate.{denseElimination}
 
 -- ---- rule 3
 
--- word j holds the columns from 64 j on: none at n or above
-abbrev pub wordFits : ℕ → ℕ → ℕ → Bool
-wordFits n j word = ltb word (2 ^ min 64 (n - 64 * j))
-
--- no bit at column n or above, in the words from word j on
-unfoldable pub wordsFit : ℕ → ℕ → List ℕ → Bool
-wordsFit n j [] = true
-wordsFit n j (word ∷ words) = wordFits n j word && wordsFit n (suc j) words
-
 -- the lowest row, numbered from i on, that has a bit at column n or above
 unfoldable pub rowRules : ℕ → ℕ → List Row → Rules
 rowRules n i [] = Kept
-rowRules n i (row ∷ rows) = elim (wordsFit n 0 (row .words)) [ true ↦ rowRules n (suc i) rows | false ↦ Broken (BadEntry i) ]
+rowRules n i (row ∷ rows) = elim (rowFits n (row .words)) [ true ↦ rowRules n (suc i) rows | false ↦ Broken (BadEntry i) ]
 
 -- ---- the rules 1 to 3
 

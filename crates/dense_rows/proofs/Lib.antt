@@ -3,3 +3,4 @@ pub mod ColumnLaws
 pub mod StepLaws
 pub mod SearchLaws
 pub mod HeldLaws
+pub mod AreaSteps

@@ -1,9 +1,9 @@
 -- A row of bits: column c is bit c mod 64 of word c div 64. Its reading as an equation.
 use mathlib.Core.Path.{_≡_}
 use mathlib.Core.List.{List, [], _∷_, map}
-use mathlib.Core.Bool.{Bool, true, false}
+use mathlib.Core.Bool.{Bool, true, false, _&&_}
 use Prim.Native.Nat.{ℕ, zero, suc, _/_, _%_, _^_, _<_}
-use lib.ListN.{getD}
+use lib.ListN.{getD, drop}
 use lib.Bits.{bitXor}
 use lib.Dec.{eqb}
 use Rattle.gf2.specs.Equation.{Equation, eqn}
@@ -40,6 +40,15 @@ equationOf n row = eqn (columns n (row .words)) (row .c)
 
 abbrev pub equationsOf : ℕ → List Row → List Equation
 equationsOf n rows = map (equationOf n) rows
+
+-- no bit set, in the first of the words from bit b on
+unfoldable pub emptyFrom : ℕ → List ℕ → Bool
+emptyFrom b [] = true
+emptyFrom b (word ∷ words) = eqb (word / 2 ^ b) 0 && emptyFrom 0 words
+
+-- no bit at column n or above
+abbrev pub rowFits : ℕ → List ℕ → Bool
+rowFits n words = emptyFrom (n % 64) (drop (n / 64) words)
 
 -- the set bits of the k lowest of a word, numbered from b on, in order
 unfoldable pub setBits : ℕ → ℕ → ℕ → List ℕ

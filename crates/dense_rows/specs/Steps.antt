@@ -1,7 +1,7 @@
 -- What a column does with rows: the pivot search, rows that change places, and the XOR with the pivot row.
-use mathlib.Core.List.{List, [], _∷_, _++_}
+use mathlib.Core.List.{List, [], _∷_, _++_, map}
 use mathlib.Core.Bool.{Bool, true, false}
-use Prim.Native.Nat.{ℕ, zero, suc, _/_}
+use Prim.Native.Nat.{ℕ, suc, _+_, _/_}
 use lib.ListN.{take, drop, getD, set}
 use lib.Bits.{bitXor}
 use Rattle.dense_rows.specs.Bits.{Row, hasBit, xorWords}
@@ -36,3 +36,7 @@ xorFrom k pivot row = record {
 -- a row below the pivot row: where it has the column, it gets the pivot row
 unfoldable pub clearRow : ℕ → Row → Row → Row
 clearRow c pivot row = elim (hasBit c row) [ true ↦ xorFrom (c / 64) pivot row | false ↦ row ]
+
+-- the rows below row i, each that has the column with row i XORed into it
+unfoldable pub clearBelow : ℕ → ℕ → List Row → List Row
+clearBelow c i rows = take (i + 1) rows ++ map (clearRow c (getD rows i noRow)) (drop (i + 1) rows)
