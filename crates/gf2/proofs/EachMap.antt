@@ -1,6 +1,6 @@
--- What holds of each element of a list that is mapped, or of which one element is written.
+-- What holds of each element of a list that is mapped, joined, or of which one element is written.
 use mathlib.Core.Path.{_≡_, _∙_, subst}
-use mathlib.Core.List.{List, [], _∷_, map}
+use mathlib.Core.List.{List, [], _∷_, _++_, map}
 use Prim.Native.Nat.{ℕ}
 use lib.ListN.{getD, set}
 use lib.Seq.{set-set, set-getD}
@@ -25,3 +25,12 @@ each-unset P l i a d p h =
 pub each-both : {A : Type 0} (P Q : A → Type 0) (l : List A) → Each P l → Each Q l → Each (λ a. P a × Q a) l
 each-both P Q [] h k = tt
 each-both P Q (a ∷ l) h k = ((h .0, k .0), each-both P Q l (h .1) (k .1))
+
+-- each part of two lists, one after the other
+pub each-front : {A : Type 0} (P : A → Type 0) (k l : List A) → Each P (k ++ l) → Each P k
+each-front P [] l h = tt
+each-front P (a ∷ k) l h = (h .0, each-front P k l (h .1))
+
+pub each-back : {A : Type 0} (P : A → Type 0) (k l : List A) → Each P (k ++ l) → Each P l
+each-back P [] l h = h
+each-back P (a ∷ k) l h = each-back P k l (h .1)
