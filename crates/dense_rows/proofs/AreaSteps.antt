@@ -18,6 +18,10 @@ use Rattle.dense_rows.specs.Steps.{fromWord, noRow, swapRows, xorFrom}
 use Rattle.dense_rows.proofs.StepLaws.{Wide, length-xorWords}
 use Rattle.dense_rows.proofs.HeldLaws.{rows-length, rows-wide, wordsPut, constantPut, held-put-row, held-put-constant, held-stretch, held-constant}
 
+-- where row i ends and row j begins, and where row j ends
+pub two-rows : (i j m w : ℕ) → i < j → j < m → (i * w + w ≤ j * w) × (j * w + w ≤ m * w)
+two-rows i j m w hi hj = (row-before i j w hi, row-before j m w hj)
+
 -- ---- a row's words from word k on
 
 stretch-end : (k w : ℕ) (l : List ℕ) → k ≤ w → length l ≡ w → stretch k (w - k) l ≡ drop k l

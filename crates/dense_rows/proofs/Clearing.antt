@@ -14,7 +14,7 @@ use Rattle.dense_rows.specs.Rows.{held, Became}
 use Rattle.dense_rows.specs.Steps.{noRow, xorFrom, clearRow, clearBelow, swapRows, fromWord}
 use Rattle.dense_rows.proofs.StepLaws.{clearRow-set, clearRow-unset}
 use Rattle.dense_rows.proofs.HeldLaws.{rows-length}
-use Rattle.dense_rows.proofs.BitTest.{Column, row-unset, row-set}
+use Rattle.dense_rows.proofs.BitTest.{Column, row-unset, row-set, row-word}
 
 -- the rows up to row i are as they shall be, and those from i on as they were
 pub record Clearing (before : List ℕ) (m w col rank word bit i : ℕ) (area : List ℕ) : Type 0 where
@@ -49,6 +49,10 @@ module _ {before : List ℕ} {m w col rank word bit i : ℕ} {area : List ℕ} (
       let n = count in
       ap (λ (l : List Row). take i (held m w area) ++ map (clearRow col top) l) (drop-cons (held m w area) i noRow (omega arith))
       ∙ sym (append-assoc (take i (held m w area)) (clearRow col top row ∷ []) (map (clearRow col top) (drop (suc i) (held m w area))))
+
+  -- the column's word of row i
+  pub clearing-place : i < m → i * w + word < length area
+  clearing-place h = row-word (s .column) m area (s .room) i h
 
   -- row i has not the column
   pub clearing-skip : i < m → bitAnd (getD area (i * w + word) 0) bit ≡ 0 → Clearing before m w col rank word bit (i + 1) area

@@ -14,7 +14,7 @@ use Rattle.dense_rows.specs.declared.Pivot.{Pivot}
 use Rattle.dense_rows.specs.declared.Pivot.the-variants.{At, Nowhere}
 use Rattle.dense_rows.proofs.HeldLaws.{rows-length}
 use Rattle.dense_rows.proofs.SearchLaws.{pivot-here, pivot-later}
-use Rattle.dense_rows.proofs.BitTest.{Column, row-unset, row-set}
+use Rattle.dense_rows.proofs.BitTest.{Column, row-unset, row-set, row-word}
 
 -- the search from row i on ends as the whole search does
 pub record Searching (area : List ℕ) (m w col rank word bit i : ℕ) : Type 0 where
@@ -29,6 +29,10 @@ searching-begin k room h = record { column = k; room = room; below = h; same = r
 module _ {area : List ℕ} {m w col rank word bit i : ℕ} (s : Searching area m w col rank word bit i) where
   next-row : i < m → drop i (held m w area) ≡ getD (held m w area) i noRow ∷ drop (suc i) (held m w area)
   next-row h = let n = rows-length m w 0 area (drop (m * w) area) in drop-cons (held m w area) i noRow (omega arith)
+
+  -- the column's word of row i
+  pub searching-place : i < m → i * w + word < length area
+  searching-place h = row-word (s .column) m area (s .room) i h
 
   pub searching-found : i < m → (bitAnd (getD area (i * w + word) 0) bit ≡ 0 → ⊥) → At i ≡ pivotFrom col rank (drop rank (held m w area))
   searching-found h f =
