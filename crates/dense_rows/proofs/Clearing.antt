@@ -130,3 +130,11 @@ swap-self k i rows =
 -- one step after another
 pub became-then : {m w : ℕ} {a b c : List ℕ} {rows : List Row} (f : List Row → List Row) → Became m w a rows b → Became m w b (f (held m w b)) c → Became m w a (f rows) c
 became-then f p q = record { long = q .long ∙ p .long; holds = q .holds ∙ ap f (p .holds); past = q .past ∙ p .past }
+
+-- no step, where the pivot row stands at the rank already
+pub became-same : (m w k i j : ℕ) (before after : List ℕ) → j ≡ i → after ≡ before → Became m w before (swapRows k i j (held m w before)) after
+became-same m w k i j before after e f = record {
+  long = ap length f;
+  holds = ap (held m w) f ∙ sym (ap (λ (r : ℕ). swapRows k i r (held m w before)) e ∙ swap-self k i (held m w before));
+  past = ap (drop (m * w + m)) f;
+}
