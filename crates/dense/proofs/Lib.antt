@@ -1,5 +1,10 @@
 pub mod ColumnStep
 pub mod WalkLaws
 pub mod BackLaws
+pub mod Lending
 pub mod Theorems
+pub mod Walking
+pub mod Backing
+pub mod Running
+pub mod RowRules
 pub mod Examples

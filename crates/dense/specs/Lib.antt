@@ -1,3 +1,4 @@
 pub mod Eliminate
 pub mod Stairs
+pub mod Areas
 pub mod Call
