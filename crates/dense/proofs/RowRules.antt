@@ -6,6 +6,7 @@ use Prim.Native.Nat.{ℕ, zero, suc, _+_, _-_, _*_, _<_, _≤_}
 use native.Mathlib.Numerals.{add-one}
 use native.Mathlib.Omega.{arith}
 use lib.ListN.{length}
+use Rattle.gf2.specs.Equation.{Each}
 use Rattle.areas.specs.Stretch.{stretch}
 use Rattle.areas.proofs.Offsets.{row-before}
 use Rattle.answers.specs.declared.Answer.the-variants.{BadEntry}
@@ -35,6 +36,15 @@ rules-any n (suc k) w i j words constants other = go (rowFits n (stretch (i * w)
         (elim b [ true ↦ rowRules n (suc j) (rowsFrom k w (suc i) words other) | false ↦ Broken (BadEntry j) ])
     go true ih = ih
     go false ih = refl
+
+-- rows that keep the rules fit
+pub rules-fit : (n i : ℕ) (rows : List Row) → rowRules n i rows ≡ Kept → Each (λ row. rowFits n (row .words) ≡ true) rows
+rules-fit n i [] e = tt
+rules-fit n i (row ∷ rows) e = go (rowFits n (row .words)) refl (λ k. rules-fit n (suc i) rows k)
+  where
+    go : (b : Bool) → rowFits n (row .words) ≡ b → (rowRules n (suc i) rows ≡ Kept → Each (λ r. rowFits n (r .words) ≡ true) rows) → Each (λ r. rowFits n (r .words) ≡ true) (row ∷ rows)
+    go true f ih = (f, ih (sym (rules-kept n i row rows f) ∙ e))
+    go false f ih = let q : Broken (BadEntry i) ≡ Kept = sym (rules-broken n i row rows f) ∙ e in absurd (let z : _≡_ {A = ℕ} 0 1 = cc in omega arith)
 
 pub record Checking (n m w : ℕ) (rows : List ℕ) (i : ℕ) : Type 0 where
   pub room : m * w ≤ length rows

@@ -1,5 +1,5 @@
 // Dense Gaussian elimination over two elements.
-// mod back;
-// mod rules;
-// mod run;
-// mod walk;
+mod back;
+mod rules;
+mod run;
+mod walk;
