@@ -160,3 +160,11 @@ module _ (rows constants : List ℕ) {n m w : ℕ} {numbers words words₁ : Lis
 
   pub run-words : cleared (m * w + m) words₂ ≡ cleared (m * w + m) words
   run-words = cleared-same (m * w + m) words₂ words (e .words-past ∙ l .past)
+
+-- ---- the solution
+
+pub zeroed-length : (n : ℕ) (l l′ : List ℕ) → length l ≡ n → l′ ≡ zeroed 0 n l → length l′ ≡ n
+zeroed-length n l l′ h e = ap length (zeroed-all n l l′ h e) ∙ length-replicate n 0
+
+pub filled : (n : ℕ) (ps : List ℕ) (rows : List Row) (l z x : List ℕ) → length l ≡ n → z ≡ zeroed 0 n l → x ≡ backSub (length z) ps rows z → x ≡ backSub n ps rows (replicate n 0)
+filled n ps rows l z x h e f = f ∙ ap₂ (λ (k : ℕ) (y : List ℕ). backSub k ps rows y) (zeroed-length n l z h e) (zeroed-all n l z h e)

@@ -33,3 +33,32 @@ fn clear_room(m: usize, w: usize, numbers: &mut [u32], words: &mut [u64])
     areas::zero::zero_numbers(numbers, 0, m);
     areas::zero::zero_words(words, 0, m * w + m);
 }
+
+// The run: the answer, the solution, and the areas with their room zero.
+pub fn solve(
+    n: usize,
+    m: usize,
+    w: usize,
+    rows: &[u64],
+    constants: &[u64],
+    solution: &mut [u64],
+    numbers: &mut [u32],
+    words: &mut [u64],
+) -> Answer
+    requires { ⌜ (denseRules n m w (now rows) (now constants) ≡ Kept) × (length (now solution) ≡ n) × (denseNumbers m ≤ length (now numbers)) × (denseWords m w ≤ length (now words)) ⌝ }
+    ensures { λ r. ⌜ r ≡ ran (denseNumbers m) (denseWords m w) (denseElimination n (rowsOf m w (now (rows .entry)) (now (constants .entry)))) (now (solution .entry)) (now (numbers .entry)) (now (words .entry)) .answer ⌝ }
+    ensures { λ _. ⌜ now (solution .exit) ≡ ran (denseNumbers m) (denseWords m w) (denseElimination n (rowsOf m w (now (rows .entry)) (now (constants .entry)))) (now (solution .entry)) (now (numbers .entry)) (now (words .entry)) .solution ⌝ }
+    ensures { λ _. ⌜ now (numbers .exit) ≡ ran (denseNumbers m) (denseWords m w) (denseElimination n (rowsOf m w (now (rows .entry)) (now (constants .entry)))) (now (solution .entry)) (now (numbers .entry)) (now (words .entry)) .numbers ⌝ }
+    ensures { λ _. ⌜ now (words .exit) ≡ ran (denseNumbers m) (denseWords m w) (denseElimination n (rowsOf m w (now (rows .entry)) (now (constants .entry)))) (now (solution .entry)) (now (numbers .entry)) (now (words .entry)) .words ⌝ }
+{
+    load(m, w, rows, constants, words);
+    let rank = eliminate(n, m, w, numbers, words);
+    if constant_left(words, m, w, rank) {
+        clear_room(m, w, numbers, words);
+        return Answer::Unsolvable;
+    }
+    areas::zero::zero_words(solution, 0, n);
+    back_substitution(words, m, w, numbers, rank, solution);
+    clear_room(m, w, numbers, words);
+    Answer::Solved
+}
