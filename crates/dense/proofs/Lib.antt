@@ -3,6 +3,7 @@ pub mod WalkLaws
 pub mod BackLaws
 pub mod Lending
 pub mod Theorems
+pub mod WordsBefore
 pub mod Walking
 pub mod Backing
 pub mod Running
