@@ -22,3 +22,4 @@ pub mod Canon
 pub mod OneValue
 pub mod Existence
 pub mod Examples
+pub mod EachMap

@@ -1,0 +1,4 @@
+pub mod Eliminate
+pub mod Stairs
+pub mod Areas
+pub mod Call

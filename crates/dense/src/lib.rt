@@ -1,0 +1,43 @@
+// Dense Gaussian elimination over two elements.
+ghost use mathlib.Core.Path.{_≡_};
+ghost use Rattle.dense.specs.Call.{denseCall};
+use answers::Answer;
+use answers::Rules;
+
+mod back;
+mod rules;
+mod run;
+mod walk;
+
+// Solves the system of `m` rows of `w` words and as many constants in `n` variables; column c is bit c mod 64 of word c div 64.
+// The system is only read: the words hold a copy of it, and the numbers its pivots.
+pub fn dense_gaussian_elimination(
+    n: usize,
+    m: usize,
+    w: usize,
+    rows: &[u64],
+    constants: &[u64],
+    solution: &mut [u64],
+    numbers: &mut [u32],
+    words: &mut [u64],
+) -> Answer
+    ensures { λ r. ⌜ r ≡ denseCall n m w (now (rows .entry)) (now (constants .entry)) (now (solution .entry)) (now (numbers .entry)) (now (words .entry)) .answer ⌝ }
+    ensures { λ _. ⌜ now (solution .exit) ≡ denseCall n m w (now (rows .entry)) (now (constants .entry)) (now (solution .entry)) (now (numbers .entry)) (now (words .entry)) .solution ⌝ }
+    ensures { λ _. ⌜ now (numbers .exit) ≡ denseCall n m w (now (rows .entry)) (now (constants .entry)) (now (solution .entry)) (now (numbers .entry)) (now (words .entry)) .numbers ⌝ }
+    ensures { λ _. ⌜ now (words .exit) ≡ denseCall n m w (now (rows .entry)) (now (constants .entry)) (now (solution .entry)) (now (numbers .entry)) (now (words .entry)) .words ⌝ }
+{
+    let checked = rules::check_rules(n, m, w, rows, constants);
+    if let Rules::Broken(answer) = checked {
+        return answer;
+    }
+    if solution.len() != n {
+        return Answer::WrongSolution;
+    }
+    if numbers.len() < m {
+        return Answer::ShortArea;
+    }
+    if words.len() < answers::dense_words(m, w) {
+        return Answer::ShortArea;
+    }
+    run::solve(n, m, w, rows, constants, solution, numbers, words)
+}

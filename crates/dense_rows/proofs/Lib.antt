@@ -1,0 +1,12 @@
+pub mod BitLaws
+pub mod ColumnLaws
+pub mod StepLaws
+pub mod SearchLaws
+pub mod HeldLaws
+pub mod AreaSteps
+pub mod BitTest
+pub mod Searching
+pub mod Xoring
+pub mod Clearing
+pub mod SetBits
+pub mod Emptiness

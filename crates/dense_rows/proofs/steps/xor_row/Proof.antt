@@ -1,0 +1,30 @@
+-- The two XORs, lifted to rows.
+use native.Mathlib.Omega.{arith}
+use borrow.Author.Needs.{needs}
+use Rattle.dense_rows.proofs.AreaSteps.{two-rows, xored-became}
+use Rattle.dense_rows.proofs.steps.xor_row.Statement.{statement}
+use Rattle.dense_rows.proofs.steps.xor_row.Tie as tie
+
+returns : tie.Need-returns
+returns c =
+    let s = c .before .before .before .before .before .before .before .before .before in
+    xored-became (s .args .m) (s .args .w) (s .args .words .now) (s .pre .3) (s .args .word) (s .args .i) (s .args .j) (s .pre .0) (s .pre .1) (s .pre .2) _ _
+    (c .before .before .before .before .before .before .xor-words .ensures) (c .before .before .xor-words2 .ensures)
+
+pub xor-row-spec : {M : Type 1} → statement M
+xor-row-spec =
+    tie.close
+    (tie.spec
+    (λ c. let s = c .before .before in let h = two-rows (s .args .i) (s .args .j) (s .args .m) (s .args .w) (s .pre .1) (s .pre .2) in search needs)  -- mul-xor-words
+    (λ c. let s = c .before .before in let h = two-rows (s .args .i) (s .args .j) (s .args .m) (s .args .w) (s .pre .1) (s .pre .2) in search needs)  -- add-xor-words
+    (λ c. let s = c .before .before in let h = two-rows (s .args .i) (s .args .j) (s .args .m) (s .args .w) (s .pre .1) (s .pre .2) in search needs)  -- mul-xor-words-2
+    (λ c. let s = c .before .before in let h = two-rows (s .args .i) (s .args .j) (s .args .m) (s .args .w) (s .pre .1) (s .pre .2) in search needs)  -- add-xor-words-2
+    (λ c. search needs)  -- sub-xor-words
+    (λ c κs. let s = c .before .before in let h = two-rows (s .args .i) (s .args .j) (s .args .m) (s .args .w) (s .pre .1) (s .pre .2) in search needs)  -- xor-words-requires
+    (λ c. search needs)  -- mul-xor-words-3
+    (λ c. search needs)  -- add-xor-words-3
+    (λ c. search needs)  -- mul-xor-words-4
+    (λ c. search needs)  -- add-xor-words-4
+    (λ c κs. search needs)  -- xor-words-requires-2
+    (λ c. search needs)  -- same-length
+    returns)
