@@ -1,0 +1,1 @@
+// Lazy Gaussian elimination over two elements: the rules, a unit at a time, and their laws; no code.

@@ -1,0 +1,1 @@
+// The work areas of lazy elimination, and how they are set up.
