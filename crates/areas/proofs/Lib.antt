@@ -1,0 +1,3 @@
+pub mod Stretch
+pub mod Rows
+pub mod Offsets
