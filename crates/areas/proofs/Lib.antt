@@ -1,3 +1,4 @@
 pub mod Stretch
 pub mod Rows
 pub mod Offsets
+pub mod Segments
