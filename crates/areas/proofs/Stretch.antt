@@ -229,6 +229,21 @@ put-all s l h = whole 0 s l ∙ rw (zero-add, drop-of-length-le l (le-of-eq (sym
 pub set-is-put : (i v : ℕ) (l : List ℕ) → i < length l → set l i v ≡ put i (v ∷ []) l
 set-is-put i v l h = set-split l i v h ∙ sym (whole i (v ∷ []) l ∙ rw (add-one i))
 
+-- one element more, behind what was written
+pub put-more : (b v : ℕ) (s l : List ℕ) → b + length s < length l → set (put b s l) (b + length s) v ≡ put b (s ++ (v ∷ [])) l
+put-more b v s l h =
+    let e = length-put b s l (omega arith) in
+    set-is-put (b + length s) v (put b s l) (omega arith)
+    ∙ sym (put-append b s (v ∷ []) l (omega arith) ∙ put-comm b (b + length s) s (v ∷ []) l (omega arith) (omega arith))
+
+-- an element past what is written
+pub put-set : (b i v : ℕ) (s l : List ℕ) → b + length s ≤ i → i < length l → put b s (set l i v) ≡ set (put b s l) i v
+put-set b i v s l h g =
+    let e = length-put b s l (omega arith) in
+    ap (λ (x : List ℕ). put b s x) (set-is-put i v l g)
+    ∙ put-comm b i s (v ∷ []) l h (omega arith)
+    ∙ sym (set-is-put i v (put b s l) (omega arith))
+
 -- ---- an element
 
 pub getD-put-before : (b i d : ℕ) (s l : List ℕ) → i < b → b ≤ length l → getD (put b s l) i d ≡ getD l i d
