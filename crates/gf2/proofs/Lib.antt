@@ -6,8 +6,10 @@ pub mod VarLists
 pub mod Order
 pub mod Members
 pub mod Selecting
+pub mod Counting
 pub mod Values
 pub mod Spans
+pub mod OurCells
 pub mod Sums
 pub mod Results
 pub mod Elimination
