@@ -4,3 +4,5 @@ pub mod RunningSums
 pub mod Sorting
 pub mod Placing
 pub mod SortSteps
+pub mod Holding
+pub mod Filling

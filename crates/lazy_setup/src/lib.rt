@@ -1,4 +1,5 @@
 // The work areas of lazy elimination, and how they are set up.
+mod lists;
 mod sort;
 mod tally;
 
