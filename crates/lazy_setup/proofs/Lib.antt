@@ -6,3 +6,4 @@ pub mod Placing
 pub mod SortSteps
 pub mod Holding
 pub mod Filling
+pub mod Loading

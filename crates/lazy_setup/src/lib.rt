@@ -1,5 +1,6 @@
 // The work areas of lazy elimination, and how they are set up.
 mod lists;
+mod load;
 mod sort;
 mod tally;
 
