@@ -7,3 +7,4 @@ pub mod SortSteps
 pub mod Holding
 pub mod Filling
 pub mod Loading
+pub mod Weighing
