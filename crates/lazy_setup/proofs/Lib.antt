@@ -8,3 +8,4 @@ pub mod Holding
 pub mod Filling
 pub mod Loading
 pub mod Weighing
+pub mod Showing
