@@ -9,3 +9,4 @@ pub mod Filling
 pub mod Loading
 pub mod Weighing
 pub mod Showing
+pub mod Picture
