@@ -10,3 +10,4 @@ pub mod Loading
 pub mod Weighing
 pub mod Showing
 pub mod Picture
+pub mod Steps
