@@ -95,13 +95,13 @@ module _ {n m : ℕ} {starts vars constants : List ℕ} (f : Fits n m starts var
       let u = length-up 0 (length (equations m starts vars constants)) in
       let z = f .many in omega arith
 
-  first-are : reverse (start n (equations m starts vars constants) .equations) ≡ firsts (spans m starts) m
+  pub first-are : reverse (start n (equations m starts vars constants) .equations) ≡ firsts (spans m starts) m
   unfolding start firsts
   first-are =
       ap₂ (λ (p : List ℕ) (k : ℕ). reverse (keep (λ e. leb (getD p e 0) 1) (upFrom 0 k))) priority-are (f .many)
       ∙ ap reverse (sym (reverse-keep (λ e. leb (getD (spans m starts) e 0) 1) m)) ∙ reverse-reverse (keep (λ e. leb (getD (spans m starts) e 0) 1) (downFrom m))
 
-  variables-are : start n (equations m starts vars constants) .variables ≡ heaviest (tallies n vars) n m
+  pub variables-are : start n (equations m starts vars constants) .variables ≡ heaviest (tallies n vars) n m
   unfolding start
   variables-are = ap₂ (λ (w : List ℕ) (k : ℕ). heaviest w n k) (weights-are f) (f .many)
 

@@ -25,7 +25,7 @@ use Rattle.lazy_setup.proofs.RunningSums.{length-running}
 use Rattle.lazy_setup.proofs.Sorting.{buckets, buckets-end, length-buckets}
 use Rattle.lazy_setup.proofs.Holding.{vars-below, filled-lists, length-shelves, owners, owners-long}
 use Rattle.lazy_setup.proofs.Loading.{length-rows, length-spans, length-firsts}
-use Rattle.lazy_setup.proofs.Picture.{madeSegments, start-picture, weights-low}
+use Rattle.lazy_setup.proofs.Picture.{madeSegments, start-picture, first-are, weights-low}
 
 -- a variable's weight is at most m
 pub tallies-low : {n m : ℕ} {starts vars constants : List ℕ} → Fits n m starts vars constants → Each (λ w. w < m + 1) (tallies n vars)
@@ -210,3 +210,19 @@ module _ {n m : ℕ} {starts vars : List ℕ} (g : Fits n m starts vars (replica
 
     pub first-many : {l : List ℕ} {r : ℕ} → Shows n m (length vars) rest (sorted n m starts vars) l → r ≡ length (firsts (stretch (at .priority) m l) m) → r ≡ length (firsts (spans m starts) m)
     first-many s q = q ∙ ap (λ (p : List ℕ). length (firsts p m)) (priorities-shown s)
+
+-- ---- the start, with any constants
+
+module _ {n m : ℕ} {starts vars constants : List ℕ} (g : Fits n m starts vars (replicate m 0)) (f : Fits n m starts vars constants) where
+  pub made-numbers : {rest area : List ℕ} → Shows n m (length vars) rest (made n m starts vars) area
+      → area ≡ numbersOf n (equations m starts vars constants) (start n (equations m starts vars constants)) ++ rest
+  unfolding numbersOf
+  made-numbers {rest} {area} s = s .shown ∙ ap (λ (segs : List (List ℕ)). joined segs ++ rest) (made-is g ∙ sym (start-picture f g))
+
+  pub first-number : length (firsts (spans m starts) m) ≡ length (start n (equations m starts vars constants) .equations)
+  first-number = ap (λ (l : List ℕ). length l) (sym (first-are f)) ∙ length-reverse (start n (equations m starts vars constants) .equations)
+
+-- the room is zeroed
+pub zero-shows : (n m t r : ℕ) (l l′ : List ℕ) → lazyNumbers n m t ≤ length l → r ≡ lazyNumbers n m t → l′ ≡ put 0 (replicate (r - 0) 0) l
+    → Shows n m t (drop (lazyNumbers n m t) l) (blanks n m t) l′
+zero-shows n m t r l l′ h e q = rw (q, e) (shows-blank n m t l h)
