@@ -11,3 +11,4 @@ pub mod Weighing
 pub mod Showing
 pub mod Picture
 pub mod Steps
+pub mod Setting

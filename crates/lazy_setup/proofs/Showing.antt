@@ -21,7 +21,7 @@ pub record Shows (n m t : ℕ) (rest : List ℕ) (segs : List (List ℕ)) (area 
   pub shape : Shaped n m t segs
   pub shown : area ≡ joined segs ++ rest
 
-zeros-left : (x : ℕ) (s : List ℕ) → length s ≤ x → put 0 s (replicate x 0) ≡ padded x s
+pub zeros-left : (x : ℕ) (s : List ℕ) → length s ≤ x → put 0 s (replicate x 0) ≡ padded x s
 unfolding put padded
 zeros-left x s h =
     let e : x ≡ length s + (x - length s) = omega arith in
