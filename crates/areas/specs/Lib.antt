@@ -1,2 +1,3 @@
 pub mod Stretch
 pub mod Rows
+pub mod Segments

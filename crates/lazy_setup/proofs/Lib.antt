@@ -1,0 +1,15 @@
+pub mod Offsets
+pub mod Tables
+pub mod RunningSums
+pub mod Sorting
+pub mod Placing
+pub mod SortSteps
+pub mod Holding
+pub mod Filling
+pub mod Loading
+pub mod Weighing
+pub mod Showing
+pub mod Picture
+pub mod Steps
+pub mod Setting
+pub mod Examples
