@@ -1,0 +1,15 @@
+pub mod PeelExamples
+pub mod PeelBasic
+pub mod PeelSolved
+pub mod PeelEmpty
+pub mod PeelCore
+pub mod PeelIsolated
+pub mod PeelWidth
+pub mod PeelXor
+pub mod PeelRefines
+pub mod PeelCrowd
+pub mod PeelBuild
+pub mod PeelCrowded
+pub mod PeelAnswers
+pub mod PeelRoom
+pub mod PeelTheorems

@@ -1,0 +1,5 @@
+pub mod Edges
+pub mod Peel
+pub mod Core
+pub mod Ours
+pub mod Machine

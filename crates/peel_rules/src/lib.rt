@@ -1,0 +1,1 @@
+// The rules of peeling: definitions in specs/, laws in proofs/.
