@@ -1,3 +1,4 @@
+pub mod Counts
 pub mod PeelExamples
 pub mod PeelBasic
 pub mod PeelSolved
@@ -11,5 +12,7 @@ pub mod PeelCrowd
 pub mod PeelBuild
 pub mod PeelCrowded
 pub mod PeelAnswers
+pub mod PeelHigh
 pub mod PeelRoom
 pub mod PeelTheorems
+pub mod PeelCalls

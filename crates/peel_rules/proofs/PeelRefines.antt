@@ -301,17 +301,17 @@ module _ (T : List Edge) (n : ℕ) (ns : List Numbered) (v : ℕ) (st : List ℕ
   byte-v : getD (g .degrees) v 0 ≡ 4 + sideNo s
   byte-v = omega (arith, cell-of v tv .byte, dv, xor-alone (sideW v) v ns h tv dz)
 
-  xor-v : getD (g .edges) v 0 ≡ q .number
+  pub xor-v : getD (g .edges) v 0 ≡ q .number
   xor-v = cell-of v tv .xor ∙ xor-alone numberW v ns h tv dz
 
-  busy : eqb (degreeOf g v) 0 ≡ false
+  pub busy : eqb (degreeOf g v) 0 ≡ false
   busy = ne-eqb (getD (g .degrees) v 0 / 4) 0 (omega (arith, byte-v))
 
-  side-v : sideAt g v ≡ s
+  pub side-v : sideAt g v ≡ s
   unfolding sideAt
   side-v = let p : getD (g .degrees) v 0 % 4 ≡ sideNo s = omega (arith, byte-v, side-small s) in ap sideFrom p ∙ side-back s
 
-  edge-v : getD T (getD (g .edges) v 0) noEdge ≡ e
+  pub edge-v : getD T (getD (g .edges) v 0) noEdge ≡ e
   edge-v = ap (λ (j : ℕ). getD T j noEdge) xor-v ∙ named-first T v ns h (r .named)
 
   pv : pivot s e ≡ v
@@ -345,7 +345,7 @@ module _ (T : List Edge) (n : ℕ) (ns : List Numbered) (v : ℕ) (st : List ℕ
   t₂ : touches o₂ e ≡ true
   t₂ = touches-second s e
 
-  lower-eq : mpush f₂ o₂ (mpush f₁ o₁ st) ≡ push es o₂ (push es o₁ st)
+  pub lower-eq : mpush f₂ o₂ (mpush f₁ o₁ st) ≡ push es o₂ (push es o₁ st)
   unfolding mpush push
   lower-eq = rw (
     degree-of f₁ o₁ (cell-of o₁ t₁) (ds₁ g v o₁ o₂ (q .number) (sideNo (firstSide s)) (sideNo (secondSide s)) n (r .size-x) (r .size-d) v< (first< va s) (second< va s) v≢1 v≢2 (first≢second va s) o₁ (λ k. v≢1 (sym k))),
@@ -398,7 +398,7 @@ module _ (T : List Edge) (n : ℕ) (ns : List Numbered) (v : ℕ) (st : List ℕ
       no : (w : ℕ) → touches w e ≡ true → u ≢ w
       no w t k = absurd (omega (arith, live w t, ap (λ (z : ℕ). degree z es) k))
 
-  rel-after : Rel T n (withoutN v ns) (record { edge = e; side = s } ∷ ps) f₃
+  pub rel-after : Rel T n (withoutN v ns) (record { edge = e; side = s } ∷ ps) f₃
   rel-after = record {
     named = named-without T v ns (r .named);
     size-x = len-x₃ g v o₁ o₂ (q .number) (sideNo (firstSide s)) (sideNo (secondSide s)) n (r .size-x) (r .size-d) v< (first< va s) (second< va s) v≢1 v≢2 (first≢second va s);

@@ -3,3 +3,5 @@ pub mod Peel
 pub mod Core
 pub mod Ours
 pub mod Machine
+pub mod Report
+pub mod Calls
