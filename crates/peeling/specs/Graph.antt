@@ -1,10 +1,10 @@
 -- The graph of both peelers: for each vertex the XOR of its edges' numbers, and a byte: its degree times 4 plus the XOR of its sides.
 use mathlib.Core.List.{List}
-use mathlib.Core.Bool.{Bool}
+use mathlib.Core.Bool.{Bool, _&&_}
 use Prim.Native.Nat.{ℕ, _+_, _-_, _/_, _%_}
-use lib.ListN.{getD, set}
+use lib.ListN.{length, getD, set}
 use lib.Bits.{bitXor}
-use lib.Dec.{leb}
+use lib.Dec.{leb, ltb}
 
 -- the two lent slices
 pub record Graph : Type 0 where
@@ -13,6 +13,10 @@ pub record Graph : Type 0 where
 
 abbrev pub graphOf : List ℕ → List ℕ → Graph
 graphOf edges degrees = record { edges = edges; degrees = degrees }
+
+-- v lies in both
+abbrev pub holdsVertex : Graph → ℕ → Bool
+holdsVertex g v = ltb v (length (g .edges)) && ltb v (length (g .degrees))
 
 abbrev pub degreeOf : Graph → ℕ → ℕ
 degreeOf g v = getD (g .degrees) v 0 / 4

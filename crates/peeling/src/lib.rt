@@ -1,3 +1,5 @@
-// The graph, the stacks and the numbers that both peelers use.
-pub mod numbers; // vertex and edge numbers, and an edge of the table
-pub mod graph; // for each vertex the XOR of its edges, its degree and its sides
+// The numbers, the graph and the stacks that both peelers use.
+pub mod graph;
+pub mod incidence;
+pub mod numbers;
+pub mod stack;
