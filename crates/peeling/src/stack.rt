@@ -1,8 +1,8 @@
 // Stacks of vertex numbers in a lent slice. A head goes in and comes back by value; `fast` and `double` lend it.
 ghost use mathlib.Core.Path.{_≡_};
 ghost use Rattle.peeling.specs.Stacks.{fastPush, fastPop, pushLower, pushUpper, popLower, popUpper};
-use answers::Answer;
 use crate::numbers::Vertex;
+use answers::Answer;
 
 // Where a stack ends: the first free cell from below, and, of a double stack, the last pushed cell from above.
 pub struct Head {
@@ -31,8 +31,7 @@ pub struct PopStep {
 
 // The vertex goes on top of the cells below `lower`.
 pub fn fast_push(stack: &mut [u32], head: Head, v: Vertex) -> Pushed
-    ensures { λ r. ⌜ r ≡ fastPush (now (stack .entry)) head (v .0) .result ⌝ }
-    ensures stack { λ _. ⌜ now (stack .exit) ≡ fastPush (now (stack .entry)) head (v .0) .stack ⌝ }
+    ensures { λ r. ⌜ (r ≡ fastPush (now (stack .entry)) head (v .0) .result) × (now (stack .exit) ≡ fastPush (now (stack .entry)) head (v .0) .stack) ⌝ }
 {
     let lower = head.lower;
     if stack.len() <= lower {
@@ -79,8 +78,7 @@ pub fn fast_pop(stack: &[u32], head: Head) -> PopStep
 
 // The lower stack grows from the beginning of the slice.
 pub fn push_lower_at(stack: &mut [u32], head: Head, v: Vertex) -> Pushed
-    ensures { λ r. ⌜ r ≡ pushLower (now (stack .entry)) head (v .0) .result ⌝ }
-    ensures stack { λ _. ⌜ now (stack .exit) ≡ pushLower (now (stack .entry)) head (v .0) .stack ⌝ }
+    ensures { λ r. ⌜ (r ≡ pushLower (now (stack .entry)) head (v .0) .result) × (now (stack .exit) ≡ pushLower (now (stack .entry)) head (v .0) .stack) ⌝ }
 {
     let lower = head.lower;
     let upper = head.upper;
@@ -108,8 +106,7 @@ pub fn push_lower_at(stack: &mut [u32], head: Head, v: Vertex) -> Pushed
 
 // The upper stack grows from the end of the slice.
 pub fn push_upper_at(stack: &mut [u32], head: Head, v: Vertex) -> Pushed
-    ensures { λ r. ⌜ r ≡ pushUpper (now (stack .entry)) head (v .0) .result ⌝ }
-    ensures stack { λ _. ⌜ now (stack .exit) ≡ pushUpper (now (stack .entry)) head (v .0) .stack ⌝ }
+    ensures { λ r. ⌜ (r ≡ pushUpper (now (stack .entry)) head (v .0) .result) × (now (stack .exit) ≡ pushUpper (now (stack .entry)) head (v .0) .stack) ⌝ }
 {
     let lower = head.lower;
     let upper = head.upper;
