@@ -1,6 +1,6 @@
 -- The high-memory machine does what the definition on lists does.
 use mathlib.Core.Path.{_≡_, refl, sym, ap, _∙_}
-use mathlib.Core.List.{List, [], _∷_}
+use mathlib.Core.List.{List, [], _∷_, map}
 use mathlib.Core.Option.{Option, none, some}
 use Prim.Native.Nat.{ℕ, zero, suc}
 use native.Mathlib.Omega.{arith}
@@ -12,12 +12,12 @@ use Rattle.peeling.specs.declared.numbers.Edge.{Edge}
 use Rattle.peeling.specs.Graph.{Graph, degreeOf, sidesOf}
 use Rattle.peel_rules.specs.Edges.{Valid, edgeAt, Side, sideOf}
 use Rattle.peel_rules.specs.Peel.{Peeled, State, popped, pop, step, run, start, peel, fill, solved, verdict, answer, crowdedVertex}
-use Rattle.peel_rules.specs.Machine.{noEdge, sideFrom, sideAt, graphAfter, stackAfter, mstart, manswer, High, hpopped, hpop, hstep, hrun, hstart, hassign, hverdict, hanswer}
+use Rattle.peel_rules.specs.Machine.{noEdge, sideNo, sideFrom, sideAt, graphAfter, stackAfter, mstart, manswer, High, hpopped, hpop, hstep, hrun, hstart, hassign, hverdict, hanswer}
 use Rattle.peel_rules.proofs.PeelBasic.{at-none}
 use Rattle.peel_rules.proofs.PeelSolved.{Inv, inv-step, start-inv}
 use Rattle.peel_rules.proofs.PeelCore.{Ends, peel-ends}
 use Rattle.peel_rules.proofs.PeelXor.{Numbered, edgesN, firstN, withoutN, edges-without, first-edge}
-use Rattle.peel_rules.proofs.PeelRefines.{Rel, Sim, busy, xor-v, side-v, edge-v, lower-eq, rel-after, idle-degree}
+use Rattle.peel_rules.proofs.PeelRefines.{Rel, Sim, busy, xor-v, sides-v, side-v, edge-v, lower-eq, rel-after, idle-degree}
 use Rattle.peel_rules.proofs.PeelAnswers.{sim-start, machine-answer}
 
 -- the edges that the numbers lead to, with their sides
@@ -34,14 +34,15 @@ pub record HighSim (T : List Edge) (n : ℕ) (s : State) (h : High) : Type 0 whe
   pub left : s .left ≡ edgesN ns
   pub high : h ≡ record { graph = graph; stack = s .stack; numbers = numbers; sides = sides }
   pub rows : rowsOf T numbers sides ≡ s .peeled
+  pub side-nos : sides ≡ map (λ (p : Peeled). sideNo (p .side)) (s .peeled)
   pub count : length numbers ≡ length (s .peeled)
   pub rel : Rel T n ns (s .peeled) graph
 
 takes-high : (T : List Edge) (n : ℕ) (ns : List Numbered) (v : ℕ) (st : List ℕ) (ps : List Peeled) (g : Graph) (q : Numbered) → firstN v ns ≡ some q → edgeAt v (edgesN ns) ≡ some (q .edge)
-    → Inv n (record { left = edgesN ns; stack = v ∷ st; peeled = ps }) → Rel T n ns ps g → (is ts : List ℕ) → rowsOf T is ts ≡ ps → length is ≡ length ps
+    → Inv n (record { left = edgesN ns; stack = v ∷ st; peeled = ps }) → Rel T n ns ps g → (is ts : List ℕ) → rowsOf T is ts ≡ ps → ts ≡ map (λ (p : Peeled). sideNo (p .side)) ps → length is ≡ length ps
     → HighSim T n (popped v (edgesN ns) st ps (some (q .edge))) (hpopped T g v st is ts (eqb (degreeOf g v) 0))
 unfolding popped hpopped graphAfter stackAfter sideAt rowsOf
-takes-high T n ns v st ps g q h he i r is ts rows count = record {
+takes-high T n ns v st ps g q h he i r is ts rows nos count = record {
   ns = withoutN v ns;
   graph = graphAfter g v (q .number) s e;
   numbers = getD (g .edges) v 0 ∷ is;
@@ -54,6 +55,7 @@ takes-high T n ns v st ps g q h he i r is ts rows count = record {
       ∙ ap (λ (d : Edge). took (q .number) s d) (edge-v T n ns v st ps g q h he i r)
       ∙ (λ j. record { graph = graphAfter g v (q .number) s e; stack = lower-eq T n ns v st ps g q h he i r j; numbers = getD (g .edges) v 0 ∷ is; sides = sidesOf g v ∷ ts });
   rows = λ j. record { edge = edge-v T n ns v st ps g q h he i r j; side = side-v T n ns v st ps g q h he i r j } ∷ rows j;
+  side-nos = λ j. sides-v T n ns v st ps g q h he i r j ∷ nos j;
   count = ap suc count;
   rel = rel-after T n ns v st ps g q h he i r;
 }
@@ -68,9 +70,9 @@ takes-high T n ns v st ps g q h he i r is ts rows count = record {
     took j k d = record { graph = graphAfter g v j k d; stack = stackAfter g v st j k d; numbers = getD (g .edges) v 0 ∷ is; sides = sidesOf g v ∷ ts }
 
 skip-high : (T : List Edge) (n : ℕ) (ns : List Numbered) (v : ℕ) (st : List ℕ) (ps : List Peeled) (g : Graph) → edgeAt v (edgesN ns) ≡ none → Rel T n ns ps g
-    → (is ts : List ℕ) → rowsOf T is ts ≡ ps → length is ≡ length ps → HighSim T n (popped v (edgesN ns) st ps none) (hpopped T g v st is ts (eqb (degreeOf g v) 0))
+    → (is ts : List ℕ) → rowsOf T is ts ≡ ps → ts ≡ map (λ (p : Peeled). sideNo (p .side)) ps → length is ≡ length ps → HighSim T n (popped v (edgesN ns) st ps none) (hpopped T g v st is ts (eqb (degreeOf g v) 0))
 unfolding popped hpopped
-skip-high T n ns v st ps g h r is ts rows count = record {
+skip-high T n ns v st ps g h r is ts rows nos count = record {
   ns = ns;
   graph = g;
   numbers = is;
@@ -78,28 +80,29 @@ skip-high T n ns v st ps g h r is ts rows count = record {
   left = refl;
   high = ap (hpopped T g v st is ts) (idle-degree T n ns v ps g (at-none v (edgesN ns) h) r);
   rows = rows;
+  side-nos = nos;
   count = count;
   rel = r;
 }
 
 high-step : (T : List Edge) (n : ℕ) (s : State) (h : High) → Inv n s → HighSim T n s h → HighSim T n (step s) (hstep T h)
 unfolding step hstep pop hpop
-high-step T n s h i r = rw (r .high) (go (s .left) (r .left) (s .stack) (s .peeled) i (r .rel) (r .rows) (r .count))
+high-step T n s h i r = rw (r .high) (go (s .left) (r .left) (s .stack) (s .peeled) i (r .rel) (r .rows) (r .side-nos) (r .count))
   where
     pick : (v : ℕ) (st : List ℕ) (ps : List Peeled) (o : Option Edge) → edgeAt v (edgesN (r .ns)) ≡ o → Inv n (record { left = edgesN (r .ns); stack = v ∷ st; peeled = ps }) → Rel T n (r .ns) ps (r .graph)
-        → rowsOf T (r .numbers) (r .sides) ≡ ps → length (r .numbers) ≡ length ps
+        → rowsOf T (r .numbers) (r .sides) ≡ ps → r .sides ≡ map (λ (p : Peeled). sideNo (p .side)) ps → length (r .numbers) ≡ length ps
         → HighSim T n (popped v (edgesN (r .ns)) st ps o) (hpopped T (r .graph) v st (r .numbers) (r .sides) (eqb (degreeOf (r .graph) v) 0))
-    pick v st ps none q j k a b = skip-high T n (r .ns) v st ps (r .graph) q k (r .numbers) (r .sides) a b
-    pick v st ps (some e) q j k a b =
+    pick v st ps none q j k a s b = skip-high T n (r .ns) v st ps (r .graph) q k (r .numbers) (r .sides) a s b
+    pick v st ps (some e) q j k a s b =
         let f = first-edge v (r .ns) e q in
         let q′ : edgeAt v (edgesN (r .ns)) ≡ some (f .0 .edge) = rw (f .2) q in
-        rw (← f .2) (takes-high T n (r .ns) v st ps (r .graph) (f .0) (f .1) q′ j k (r .numbers) (r .sides) a b)
+        rw (← f .2) (takes-high T n (r .ns) v st ps (r .graph) (f .0) (f .1) q′ j k (r .numbers) (r .sides) a s b)
 
     go : (es : List Edge) → es ≡ edgesN (r .ns) → (st : List ℕ) (ps : List Peeled) → Inv n (record { left = es; stack = st; peeled = ps }) → Rel T n (r .ns) ps (r .graph)
-        → rowsOf T (r .numbers) (r .sides) ≡ ps → length (r .numbers) ≡ length ps
+        → rowsOf T (r .numbers) (r .sides) ≡ ps → r .sides ≡ map (λ (p : Peeled). sideNo (p .side)) ps → length (r .numbers) ≡ length ps
         → HighSim T n (pop es st ps) (hpop T (r .graph) st (r .numbers) (r .sides))
-    go es p [] ps j k a b = record { ns = r .ns; graph = r .graph; numbers = r .numbers; sides = r .sides; left = p; high = refl; rows = a; count = b; rel = k }
-    go es p (v ∷ st) ps j k a b = rw p (pick v st ps (edgeAt v (edgesN (r .ns))) refl (rw p at j) k a b)
+    go es p [] ps j k a s b = record { ns = r .ns; graph = r .graph; numbers = r .numbers; sides = r .sides; left = p; high = refl; rows = a; side-nos = s; count = b; rel = k }
+    go es p (v ∷ st) ps j k a s b = rw p (pick v st ps (edgeAt v (edgesN (r .ns))) refl (rw p at j) k a s b)
 
 pub high-run : (T : List Edge) (n k : ℕ) (s : State) (h : High) → Inv n s → HighSim T n s h → HighSim T n (run k s) (hrun T k h)
 unfolding run hrun
@@ -119,6 +122,7 @@ high-start n T va un =
       left = r .left;
       high = λ j. record { graph = r .machine j .graph; stack = r .machine j .lower; numbers = []; sides = [] };
       rows = refl;
+      side-nos = refl;
       count = refl;
       rel = r .rel;
     }

@@ -307,6 +307,9 @@ module _ (T : List Edge) (n : ℕ) (ns : List Numbered) (v : ℕ) (st : List ℕ
   pub busy : eqb (degreeOf g v) 0 ≡ false
   busy = ne-eqb (getD (g .degrees) v 0 / 4) 0 (omega (arith, byte-v))
 
+  pub sides-v : getD (g .degrees) v 0 % 4 ≡ sideNo s
+  sides-v = omega (arith, byte-v, side-small s)
+
   pub side-v : sideAt g v ≡ s
   unfolding sideAt
   side-v = let p : getD (g .degrees) v 0 % 4 ≡ sideNo s = omega (arith, byte-v, side-small s) in ap sideFrom p ∙ side-back s
