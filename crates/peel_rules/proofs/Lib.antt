@@ -15,6 +15,7 @@ pub mod PeelAnswers
 pub mod PeelHigh
 pub mod PeelTurns
 pub mod PeelFilling
+pub mod PeelOthers
 pub mod PeelRoom
 pub mod PeelTheorems
 pub mod PeelCalls

@@ -1,8 +1,8 @@
 -- What the code asks before it fills: each peeled edge is in the table, its side is one of three, and its vertices are cells.
-use mathlib.Core.Path.{_≡_, refl, sym, ap, _∙_, subst}
+use mathlib.Core.Path.{_≡_, refl, sym, ap, _∙_}
 use mathlib.Core.List.{List, [], _∷_, map}
 use mathlib.Core.Bool.{Bool, true, false}
-use Prim.Native.Nat.{ℕ, zero, suc, _+_, _%_, _≤_, _<_}
+use Prim.Native.Nat.{ℕ, zero, suc, _<_}
 use native.Mathlib.Omega.{arith}
 use lib.ListN.{List·getD-eq-default, length, getD}
 use lib.Dec.{eqb, ltb}
@@ -11,11 +11,11 @@ use Rattle.gf2.specs.Equation.{Each}
 use Rattle.peeling.specs.declared.numbers.Edge.{Edge}
 use Rattle.peeling.specs.Graph.{Graph, degreeOf, sidesOf}
 use Rattle.peel_rules.specs.Edges.{Valid, Side, side0, side1, side2, pivot}
-use Rattle.peel_rules.specs.Peel.{Peeled, State, start, peel, crowdedVertex}
-use Rattle.peel_rules.specs.Machine.{noEdge, sideNo, sideFrom, graphAfter, stackAfter, Machine, mpopped, mpop, mstep, mrun, mstart, takeOff, High, hpopped, hpop, hstep, hrun, hstart}
-use Rattle.peel_rules.proofs.PeelSolved.{Good, Inv, peel-inv}
+use Rattle.peel_rules.specs.Peel.{Peeled, peel, crowdedVertex}
+use Rattle.peel_rules.specs.Machine.{noEdge, sideNo, sideFrom, Machine, mpopped, mpop, mstep, mrun, mstart, takeOff, High, hpopped, hpop, hstep, hrun, hstart}
+use Rattle.peel_rules.proofs.PeelSolved.{Good, peel-inv}
 use Rattle.peel_rules.proofs.PeelXor.{edgesN}
-use Rattle.peel_rules.proofs.PeelRefines.{Kept, KeptOne, Sim, pivotOf, side-small}
+use Rattle.peel_rules.proofs.PeelRefines.{Kept, Sim, pivotOf}
 use Rattle.peel_rules.proofs.PeelAnswers.{sim-peel}
 use Rattle.peel_rules.proofs.PeelHigh.{rowsOf, HighSim, high-peel}
 

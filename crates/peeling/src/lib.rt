@@ -4,4 +4,5 @@ pub mod fast;
 pub mod graph;
 pub mod incidence;
 pub mod numbers;
+pub mod removal;
 pub mod stack;

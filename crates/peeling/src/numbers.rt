@@ -1,5 +1,4 @@
 // Counts of two sorts, and the record of the edge table.
-ghost use mathlib.Core.Path.{_≡_};
 
 // The number of a vertex, which is the number of its cell.
 pub struct Vertex(pub u32);
@@ -13,11 +12,4 @@ pub struct Edge {
     pub b: Vertex,
     pub c: Vertex,
     pub value: u64,
-}
-
-// A number as an index.
-pub fn wide(x: u32) -> usize
-    ensures { λ r. ⌜ r ≡ x ⌝ }
-{
-    x as usize
 }
