@@ -1,0 +1,4 @@
+pub mod Graph
+pub mod GraphCalls
+pub mod Removal
+pub mod Stacks
