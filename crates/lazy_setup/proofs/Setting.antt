@@ -5,22 +5,28 @@ use Prim.Native.Nat.{ℕ, zero, suc, _+_, _-_, _<_}
 use native.Mathlib.Nat.{sub-zero}
 use native.Mathlib.Omega.{arith}
 use lib.ListN.{length, drop, getD, replicate, length-map, length-replicate, length-reverse}
-use Rattle.gf2.specs.Equation.{Equation}
+use mathlib.Core.Bool.{true}
+use lib.Dec.{leb}
+use Rattle.gf2.specs.Equation.{Equation, Each, Rising}
+use Rattle.gf2.specs.NumberLists.{upFrom}
+use Rattle.gf2.proofs.SymDiff.{rising-length}
+use Rattle.gf2.proofs.Selecting.{length-keep, length-up}
 use Rattle.gf2.specs.ByNumber.{rowOf, blank}
 use Rattle.answers.specs.Sizes.{lazyWords}
-use Rattle.areas.specs.Rows.{padded}
+use Rattle.areas.specs.Rows.{padded, Narrow}
 use Rattle.areas.specs.Stretch.{put, cleared}
 use Rattle.areas.proofs.Stretch.{cleared-is-put, put-append-left}
 use Rattle.system.specs.System.{equationAt, equations}
 use Rattle.system.specs.Fits.{Fits}
 use Rattle.system.proofs.Reading.{equations-at}
 use Rattle.system.proofs.Soundness.{fits-from}
-use Rattle.lazy.specs.Lazy.{heaviest, start}
+use Rattle.lazy.specs.Lazy.{listing, heaviest, start}
+use Rattle.lazy.proofs.AtStart.{start-variables}
 use Rattle.lazy_setup.specs.declared.Stand.{Stand}
 use Rattle.lazy_setup.specs.Area.{wordsOf}
-use Rattle.lazy_setup.specs.Layout.{standOf}
+use Rattle.lazy_setup.specs.Layout.{standOf, Sized}
 use Rattle.lazy_setup.specs.Tables.{tallies}
-use Rattle.lazy_setup.proofs.Tables.{is-table}
+use Rattle.lazy_setup.proofs.Tables.{is-table, length-table}
 use Rattle.lazy_setup.proofs.Showing.{zeros-left}
 use Rattle.lazy_setup.proofs.Picture.{variables-are}
 use Rattle.lazy_setup.proofs.Steps.{length-sorted}
@@ -71,3 +77,27 @@ module _ {n m : ℕ} {starts vars constants : List ℕ} (f : Fits n m starts var
       many : n ≡ length (start n (equations m starts vars constants) .variables)
       many =
           sym (ap (λ (l : List ℕ). length l) (variables-are f) ∙ sym (length-reverse (heaviest (tallies n vars) n m)) ∙ length-sorted (fits-plain f))
+
+  -- the start has the lengths that the areas are made for
+  pub start-sized : Sized n (equations m starts vars constants) (start n (equations m starts vars constants))
+  unfolding start
+  start-sized =
+      record {
+        rows = refl;
+        narrow = λ i h. at (equations m starts vars constants) (f .each-rising) i h;
+        weight = length-table (λ v. length (listing (equations m starts vars constants) v)) 0 n;
+        variables = start-variables n (equations m starts vars constants);
+        idle = length-replicate n true;
+        priority = length-table (λ e. length (rowOf (equations m starts vars constants) e .vars)) 0 (length (equations m starts vars constants));
+        equations =
+            let k = length-keep (λ e. leb (getD (map (λ e. length (rowOf (equations m starts vars constants) e .vars)) (upFrom 0 (length (equations m starts vars constants)))) e 0) 1) (upFrom 0 (length (equations m starts vars constants))) in
+            let u = length-up 0 (length (equations m starts vars constants)) in omega arith;
+        solved = omega arith;
+        dense = omega arith;
+        dense-narrow = λ i h. absurd (omega arith);
+      }
+    where
+      at : (es : List Equation) → Each (λ e. Rising 0 n (e .vars)) es → Narrow n (map (λ r. r .vars) es)
+      at [] e i h = absurd (omega arith)
+      at (x ∷ es) e zero h = let r = rising-length 0 n (x .vars) (omega arith) (e .0) in omega arith
+      at (x ∷ es) e (suc i) h = at es (e .1) i (omega arith)

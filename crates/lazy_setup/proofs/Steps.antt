@@ -23,7 +23,7 @@ use Rattle.lazy_setup.proofs.Showing.{Shows, shows-read, shows-put, sho
 use Rattle.lazy_setup.proofs.Tables.{length-tallies, getD-tallies}
 use Rattle.lazy_setup.proofs.RunningSums.{length-running}
 use Rattle.lazy_setup.proofs.Sorting.{buckets-end, length-buckets}
-use Rattle.lazy_setup.proofs.Holding.{vars-below, filled-lists, length-shelves, owners, owners-long}
+use Rattle.lazy_setup.proofs.Holding.{vars-below, lists-long}
 use Rattle.lazy_setup.proofs.Loading.{length-rows, length-spans, length-firsts}
 use Rattle.lazy_setup.proofs.Picture.{madeSegments, start-picture, first-are, weights-low}
 
@@ -55,11 +55,6 @@ module _ (n m : ℕ) (starts vars : List ℕ) where
   made = set sorted 9 (padded m (firsts (spans m starts) m))
 
 module _ {n m : ℕ} {starts vars : List ℕ} (g : Fits n m starts vars (replicate m 0)) where
-  length-lists : length (listsFrom (equations m starts vars (replicate m 0)) 0 n) ≡ length vars
-  length-lists =
-      ap (λ (s : List ℕ). length s) (sym (filled-lists g))
-      ∙ length-shelves vars (owners 0 (equations m starts vars (replicate m 0))) (owners-long g) n (length vars) (omega arith) (vars-below g)
-
   pub length-sorted : length (reverse (heaviest (tallies n vars) n m)) ≡ n
   length-sorted =
       let z = length-tallies n vars in
@@ -179,7 +174,7 @@ module _ {n m : ℕ} {starts vars : List ℕ} (g : Fits n m starts vars (replica
     pub fill-shows : {l l′ : List ℕ} → Shows n m (length vars) rest (weighed n m starts vars) l
         → l′ ≡ put (at .lists) (listsFrom (equations m starts vars (replicate m 0)) 0 n) l → Shows n m (length vars) rest (listed n m starts vars) l′
     unfolding listed
-    fill-shows {l} {l′} s q = let a = shows-put s 2 (at .lists) (listsFrom (equations m starts vars (replicate m 0)) 0 n) (lists-at s) length-lists in rw q a
+    fill-shows {l} {l′} s q = let a = shows-put s 2 (at .lists) (listsFrom (equations m starts vars (replicate m 0)) 0 n) (lists-at s) (lists-long g) in rw q a
 
     -- ---- the variables by weight
 
