@@ -39,7 +39,7 @@ pub fn store_row(
 }
 
 // The longer of two lengths.
-pub fn longer(a: u32, b: u32) -> usize
+fn longer(a: u32, b: u32) -> usize
     ensures { λ r. ⌜ Longer a b r ⌝ }
 {
     if a < b {

@@ -14,7 +14,7 @@ use Rattle.answers.specs.Sizes.{sparseNumbers, sparseWords}
 use Rattle.rows.specs.Picture.{Drawn, Kept, Held, Became, rowsOf, rowAt, swapped, added}
 use Rattle.rows.proofs.Holding.{row-narrow, row-length, row-first, row-constant, rest-kept, rows-are, held, carried}
 use Rattle.sparse.specs.Eliminate.{Meeting, clash, identity, both, summed, meeting, outerRow, outerRows, echelonForm}
-use Rattle.sparse.specs.Reduce.{MetBy, clashed, vanished, paired, ReducedBy, refused, reduced, Meets, Reduces, summedWith}
+use Rattle.sparse.specs.Reduce.{MetBy, clashed, vanished, paired, ReducedBy, refused, reduced, MeetsRows, Reduces, summedWith}
 use Rattle.sparse.specs.declared.echelon.Met.{Met}
 use Rattle.sparse.specs.declared.echelon.Met.the-variants.{Clash, Identity, Both}
 use Rattle.sparse.specs.declared.echelon.Reduction.{Reduction}
@@ -128,6 +128,6 @@ module _ {n m : ℕ} {rows : List Equation} {rest rest′ numbers words : List �
           onward {numbers₂} {words₂} (paired i′ j′ e k) =
               paired i′ j′ (sym is-sum ∙ e) (subst (λ (r : List Equation). Drawn n m r rest rest′ numbers₂ words₂) (ap (λ (r : List Equation). set r j j′) (over i′)) k)
 
-          pub meet-sum : {numbers₂ words₂ : List ℕ} {r : Met} → Meets summedWith n m i j numbers₁ words₁ numbers₂ words₂ r → MetBy n m i j rows rest rest′ (meeting (rowAt rows i) (rowAt rows j)) numbers₂ words₂ r
+          pub meet-sum : {numbers₂ words₂ : List ℕ} {r : Met} → MeetsRows summedWith n m i j numbers₁ words₁ numbers₂ words₂ r → MetBy n m i j rows rest rest′ (meeting (rowAt rows i) (rowAt rows j)) numbers₂ words₂ r
           meet-sum {numbers₂} {words₂} {r} k =
               onward (carried b (λ rows₁ x y. MetBy n m i j rows₁ x y (summedWith (rowAt rows₁ i) (rowAt rows₁ j)) numbers₂ words₂ r) k)

@@ -12,7 +12,7 @@ use Rattle.gf2.specs.Result.{Result, unsolvable, ok}
 use Rattle.rows.specs.Picture.{Drawn, Kept, Held, rowsOf, rowAt}
 use Rattle.rows.proofs.Holding.{row-constant, rest-kept, held, carried}
 use Rattle.sparse.specs.Eliminate.{Meeting, clash, identity, both, meeting, outerRow, outerRows, echelonForm}
-use Rattle.sparse.specs.Reduce.{MetBy, clashed, vanished, paired, ReducedBy, refused, reduced, Meets, Reduces}
+use Rattle.sparse.specs.Reduce.{MetBy, clashed, vanished, paired, ReducedBy, refused, reduced, MeetsRows, Reduces}
 use Rattle.sparse.specs.declared.echelon.Met.{Met}
 use Rattle.sparse.specs.declared.echelon.Met.the-variants.{Clash, Identity, Both}
 use Rattle.sparse.specs.declared.echelon.Reduction.{Reduction}
@@ -67,7 +67,7 @@ module _ {n m d i : ℕ} {rows₀ : List Equation} {rest rest′ numbers words :
       let z : d - j ≡ 0 = omega arith in
       settled (outerRow i (take d rows₀)) (s .rows) (sym (s .future) ∙ loop-over (d - j) i j (s .rows) z) (s .drawn)
 
-  module _ (h : j < d) {numbers′ words′ : List ℕ} {r : Met} (k : Meets meeting n m i j numbers words numbers′ words′ r) where
+  module _ (h : j < d) {numbers′ words′ : List ℕ} {r : Met} (k : MeetsRows meeting n m i j numbers words numbers′ words′ r) where
     met : MetBy n m i j (s .rows) rest rest′ (meeting (rowAt (s .rows) i) (rowAt (s .rows) j)) numbers′ words′ r
     met = carried (s .drawn) (λ rows x y. MetBy n m i j rows x y (meeting (rowAt rows i) (rowAt rows j)) numbers′ words′ r) k
 

@@ -31,8 +31,8 @@ pub data FinishedBy (o : Result (List ℕ)) (x x′ : List ℕ) : Reduction → 
 
 -- ---- of areas, at entry and at exit
 
-abbrev pub Meets : (Equation → Equation → Meeting) → ℕ → ℕ → ℕ → ℕ → List ℕ → List ℕ → List ℕ → List ℕ → Met → Type 0
-Meets f n m i j numbers words numbers′ words′ r =
+abbrev pub MeetsRows : (Equation → Equation → Meeting) → ℕ → ℕ → ℕ → ℕ → List ℕ → List ℕ → List ℕ → List ℕ → Met → Type 0
+MeetsRows f n m i j numbers words numbers′ words′ r =
     MetBy n m i j (rowsOf n m numbers words) (drop (sparseNumbers n m) numbers) (drop (sparseWords m) words)
     (f (rowAt (rowsOf n m numbers words) i) (rowAt (rowsOf n m numbers words) j)) numbers′ words′ r
 

@@ -9,7 +9,7 @@ ghost use Rattle.sparse.specs.Reduce.{FinishedBy};
 use crate::echelon::Reduction;
 
 // Whether row `i` is an equation that no values meet.
-pub fn is_unsolvable(numbers: &[u32], words: &[u64], n: usize, m: usize, i: usize) -> bool
+fn is_unsolvable(numbers: &[u32], words: &[u64], n: usize, m: usize, i: usize) -> bool
     requires { ⌜ Held n m (now numbers) (now words) × (i < m) ⌝ }
     ensures { λ r. ⌜ r ≡ contradicted (rowAt (rowsOf n m (now (numbers .entry)) (now (words .entry))) i ∷ []) ⌝ }
 {
@@ -35,7 +35,7 @@ pub fn any_unsolvable(numbers: &[u32], words: &[u64], n: usize, m: usize, d: usi
 }
 
 // The first variable of row `i` gets the value that meets the row.
-pub fn pin_row(numbers: &[u32], words: &[u64], n: usize, m: usize, i: usize, solution: &mut [u64])
+fn pin_row(numbers: &[u32], words: &[u64], n: usize, m: usize, i: usize, solution: &mut [u64])
     requires { ⌜ Held n m (now numbers) (now words) × (i < m) × (length (now solution) ≡ n) ⌝ }
     ensures { λ _. ⌜ now (solution .exit) ≡ pin (rowAt (rowsOf n m (now (numbers .entry)) (now (words .entry))) i) (now (solution .entry)) ⌝ }
 {

@@ -4,7 +4,7 @@ ghost use Prim.Native.Nat.{_+_, _≤_, _<_};
 ghost use Rattle.answers.specs.Sizes.{maxVariables};
 ghost use Rattle.rows.specs.Picture.{Held};
 ghost use Rattle.sparse.specs.Eliminate.{meeting, outerRow, echelonForm};
-ghost use Rattle.sparse.specs.Reduce.{Meets, Reduces, summedWith};
+ghost use Rattle.sparse.specs.Reduce.{MeetsRows, Reduces, summedWith};
 
 // What came of a meeting of row i and a later row j.
 pub enum Met {
@@ -22,7 +22,7 @@ pub enum Reduction {
 }
 
 // Row `i` is a sum: where its first variable is above that of row `j`, the two change places.
-pub fn summed_rows(
+fn summed_rows(
     numbers: &mut [u32],
     words: &mut [u64],
     n: usize,
@@ -31,7 +31,7 @@ pub fn summed_rows(
     j: usize,
 ) -> Met
     requires { ⌜ Held n m (now numbers) (now words) × (i < j) × (j < m) ⌝ }
-    ensures { λ r. ⌜ Meets summedWith n m i j (now (numbers .entry)) (now (words .entry)) (now (numbers .exit)) (now (words .exit)) r ⌝ }
+    ensures { λ r. ⌜ MeetsRows summedWith n m i j (now (numbers .entry)) (now (words .entry)) (now (numbers .exit)) (now (words .exit)) r ⌝ }
 {
     if numbers[m * n + n + i] == 0 {
         if words[i] != 0 {
@@ -49,16 +49,9 @@ pub fn summed_rows(
 }
 
 // Row `i` meets the later row `j`.
-pub fn meet_rows(
-    numbers: &mut [u32],
-    words: &mut [u64],
-    n: usize,
-    m: usize,
-    i: usize,
-    j: usize,
-) -> Met
+fn meet_rows(numbers: &mut [u32], words: &mut [u64], n: usize, m: usize, i: usize, j: usize) -> Met
     requires { ⌜ Held n m (now numbers) (now words) × (i < j) × (j < m) × (n ≤ maxVariables) ⌝ }
-    ensures { λ r. ⌜ Meets meeting n m i j (now (numbers .entry)) (now (words .entry)) (now (numbers .exit)) (now (words .exit)) r ⌝ }
+    ensures { λ r. ⌜ MeetsRows meeting n m i j (now (numbers .entry)) (now (words .entry)) (now (numbers .exit)) (now (words .exit)) r ⌝ }
 {
     if numbers[m * n + n + j] == 0 {
         if words[j] != 0 {
