@@ -9,3 +9,4 @@ pub mod Backing
 pub mod Running
 pub mod RowRules
 pub mod Examples
+pub mod CallTheorems

@@ -1,1 +1,0 @@
-// The sums on the workbench: one table, one theorem, no code.
