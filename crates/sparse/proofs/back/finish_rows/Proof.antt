@@ -13,6 +13,6 @@ finish-rows-spec =
     (λ c κs. search needs)  -- any-unsolvable-requires
     (λ c. finish-stop _ _ _ (c .before .any-unsolvable .ensures) (c .if1 .taken))  -- returns
     (λ c κs. search needs)  -- zero-words-requires
-    (λ c κs. let s = c .before .before .before .before .before .before .before .before .before .before in (s .pre .0, s .pre .1, search needs))  -- back-substitution-requires
+    (λ c κs. let s = c .before .before .before .before .before .before .before .before .before .before in (s .pre .0, search needs, search needs))  -- back-substitution-requires
     (λ c. search needs)  -- same-length
     (λ c. let s = c .before .before .before .before .before .before .before .before .before .before .before .before .before in finish-done _ _ _ _ _ (c .before .before .before .before .before .before .before .before .before .any-unsolvable .ensures) (c .before .before .before .before .before .before .before .before .if1 .left) (zeros-all _ _ _ (s .pre .2) (c .before .before .before .before .before .before .zero-words .ensures)) (c .before .before .back-substitution .ensures)))

@@ -29,11 +29,11 @@ echelon-form-spec =
     (λ c. search needs)  -- enum-told
     (λ c. search needs)  -- same-length
     (λ c. search needs)  -- same-length-2
-    (λ c. reducing-stop (c .before .before .before .before .before .before .before .before .before .before .loop .inv .0) (c .before .before .before .before .before .before .before .before .before .loop-test .taken) (c .before .before .before .before .before .before .outer-row .ensures) (c .enum-told .given .1))  -- returns
+    (λ c. reducing-stop (c .before .before .before .before .before .before .before .before .before .before .loop .inv .0) (omega (arith, c .before .before .before .before .before .before .before .before .before .loop-test .taken)) (c .before .before .before .before .before .before .outer-row .ensures) (c .enum-told .given .1))  -- returns
     (λ c. search needs)  -- enum-told-2
     (λ c. search needs)  -- add-i
     (λ c. search needs)  -- loop-less
-    (λ c. (reducing-turn (c .before .before .before .before .before .before .before .before .before .before .loop .inv .0) (c .before .before .before .before .before .before .before .before .before .loop-test .taken) (c .before .before .before .before .before .before .outer-row .ensures) (c .enum-told2 .given .1), search needs, search needs, search needs))  -- loop-again
+    (λ c. (reducing-turn (c .before .before .before .before .before .before .before .before .before .before .loop .inv .0) (omega (arith, c .before .before .before .before .before .before .before .before .before .loop-test .taken)) (c .before .before .before .before .before .before .outer-row .ensures) (c .enum-told2 .given .1), search needs, search needs, search needs))  -- loop-again
     (λ c. search needs)  -- same-length-3
     (λ c. search needs)  -- same-length-4
     (λ c. reducing-end (c .before .loop .inv .0) (c .loop-test .left)))
