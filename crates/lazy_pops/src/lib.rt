@@ -1,0 +1,2 @@
+// The pops of lazy elimination, on its work areas.
+mod lowering;
