@@ -4,9 +4,14 @@ pub mod Each
 pub mod SymDiff
 pub mod VarLists
 pub mod Order
+pub mod Members
+pub mod Selecting
 pub mod Values
 pub mod Spans
+pub mod Sums
+pub mod Results
 pub mod Elimination
 pub mod Canon
+pub mod OneValue
 pub mod Existence
 pub mod Examples

@@ -5,7 +5,8 @@ use Prim.Native.Nat.{ℕ, zero, suc, _+_, _<_, _≤_, zero-le, suc-le-suc}
 use native.Mathlib.Nat.{not-suc-le-zero, le-of-suc-le-suc}
 use native.Mathlib.Omega.{arith}
 use lib.ListN.{getD, length, take, drop}
-use Rattle.gf2.specs.Equation.{Each, Above, Increasing, Rising}
+use Rattle.gf2.specs.Equation.{Equation, Each, Above, Increasing, Rising, Sorted, Below}
+use Rattle.gf2.proofs.Each.{each-map}
 use Rattle.gf2.proofs.VarLists.{above-trans}
 
 first-above : (v : ℕ) (vs : List ℕ) → (zero < length vs → v < getD vs zero 0) → Increasing vs → Above v vs
@@ -89,3 +90,15 @@ from-zero (v ∷ vs) = (zero-le, from-zero vs)
 
 pub below-rising : (n : ℕ) (vs : List ℕ) → Increasing vs → Each (λ u. u < n) vs → Rising 0 n vs
 below-rising n vs = increasing-rising 0 n vs (from-zero vs)
+
+-- ---- the same of each row
+
+pub rising-sorted : (n : ℕ) (rows : List Equation) → Each (λ r. Rising 0 n (r .vars)) rows → Sorted rows
+rising-sorted n rows h = each-map rows (λ r. rising-increasing 0 n (r .vars)) h
+
+pub rising-belows : (n : ℕ) (rows : List Equation) → Each (λ r. Rising 0 n (r .vars)) rows → Below n rows
+rising-belows n rows h = each-map rows (λ r. rising-below 0 n (r .vars)) h
+
+pub rising-both : (n : ℕ) (rows : List Equation) → Sorted rows → Below n rows → Each (λ r. Rising 0 n (r .vars)) rows
+rising-both n [] s b = tt
+rising-both n (r ∷ rows) s b = (below-rising n (r .vars) (s .0) (b .0), rising-both n rows (s .1) (b .1))

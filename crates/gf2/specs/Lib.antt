@@ -3,3 +3,5 @@ pub mod Span
 pub mod Canonical
 pub mod Ours
 pub mod Result
+pub mod NumberLists
+pub mod ByNumber

@@ -1,70 +1,36 @@
--- The lazy rules, a unit at a time.
+-- Lazy elimination, one unit at a time: a pop, an outer row of the dense part, or the last unit.
 use mathlib.Core.List.{List, [], _∷_, _++_, map}
-use mathlib.Core.Bool.{Bool, true, false, not, cond, _&&_}
+use mathlib.Core.Bool.{Bool, true, false, not, cond}
 use Prim.Native.Nat.{ℕ, zero, suc, pred, _+_}
 use lib.ListN.{length, getD, set, replicate}
 use lib.Bits.{bitXor}
 use lib.Dec.{eqb, ltb, leb}
-use Rattle.gf2.specs.Equation.{Equation, evalVars, lists, sum}
+use Rattle.gf2.specs.Equation.{Equation, evalVars, sum}
+use Rattle.gf2.specs.NumberLists.{upFrom, downFrom, keep, firstOf}
+use Rattle.gf2.specs.ByNumber.{rowOf, listsAt}
 use Rattle.gf2.specs.Result.{Result, unsolvable, ok}
 use Rattle.sparse.specs.Eliminate.{outerRow, contradicted, backSub}
 
--- ---- lists of numbers
+-- `sys` is the system as lent, throughout: which equation lists which variable is asked of the start.
 
--- k, k + 1, .., n of them
-unfoldable pub upFrom : ℕ → ℕ → List ℕ
-upFrom k zero = []
-upFrom k (suc n) = k ∷ upFrom (suc k) n
+-- ---- which equations list a variable
 
--- n - 1, .., 1, 0
-unfoldable pub downFrom : ℕ → List ℕ
-downFrom zero = []
-downFrom (suc n) = n ∷ downFrom n
-
--- those of the list that pass the test, in their order
-unfoldable pub keep : (ℕ → Bool) → List ℕ → List ℕ
-keep p [] = []
-keep p (v ∷ vs) = cond (p v) (v ∷ keep p vs) (keep p vs)
-
--- the first of the list that passes the test; 0 where none does
-unfoldable pub firstOf : (ℕ → Bool) → List ℕ → ℕ
-firstOf p [] = 0
-firstOf p (v ∷ vs) = cond (p v) v (firstOf p vs)
-
--- ---- the system at the start
-
--- an equation past the last one of a list: 0 = 0
-abbrev pub blank : Equation
-blank = record { vars = []; c = 0 }
-
-abbrev pub rowOf : List Equation → ℕ → Equation
-rowOf rows e = getD rows e blank
-
--- does equation e list v?
-abbrev pub listsAt : List Equation → ℕ → ℕ → Bool
-listsAt rows v e = lists v (rowOf rows e .vars)
-
--- the equations that list v, in their order
+-- the equations that list v, in equation order
 unfoldable pub listing : List Equation → ℕ → List ℕ
 listing sys v = keep (listsAt sys v) (upFrom 0 (length sys))
 
--- the same without equation e
+-- the others of them than e
 unfoldable pub others : List Equation → ℕ → ℕ → List ℕ
 others sys v e = keep (λ f. not (eqb f e)) (listing sys v)
 
--- of n variables with these weights, those of weight w or less: the heaviest first, of equal weights the highest first
-unfoldable pub heaviest : List ℕ → ℕ → ℕ → List ℕ
-heaviest weight n zero = keep (λ v. eqb (getD weight v 0) zero) (downFrom n)
-heaviest weight n (suc w) = keep (λ v. eqb (getD weight v 0) (suc w)) (downFrom n) ++ heaviest weight n w
-
--- ---- where the work stands
+-- ---- the state
 
 -- equation e was solved for its variable v
 pub record Solved : Type 0 where
   pub equation : ℕ
   pub pivot : ℕ
 
-pub record Lazy : Type 0 where
+pub record State : Type 0 where
   -- the equations as they stand
   pub rows : List Equation
   -- of each equation, how many of its variables are neither active nor solved
@@ -84,9 +50,20 @@ pub record Lazy : Type 0 where
   -- how many equations have not been popped
   pub remaining : ℕ
   -- how many outer rows of the dense part are done
-  pub cleared : ℕ
+  pub denseDone : ℕ
 
-unfoldable pub start : ℕ → List Equation → Lazy
+-- the variables below n whose weight is w
+unfoldable pub ofWeight : List ℕ → ℕ → ℕ → List ℕ
+ofWeight weight n w = keep (λ v. eqb (getD weight v 0) w) (downFrom n)
+
+-- those of weight w or less from the heavy end: by weight, then by number
+unfoldable pub heaviest : List ℕ → ℕ → ℕ → List ℕ
+heaviest weight n zero = ofWeight weight n zero
+heaviest weight n (suc w) = ofWeight weight n (suc w) ++ heaviest weight n w
+
+-- a variable's weight is the number of equations listing it, an equation's priority its length; the first list holds
+-- the equations of priority 0 or 1, lowest number on top
+unfoldable pub start : ℕ → List Equation → State
 start n sys =
     let weight = map (λ v. length (listing sys v)) (upFrom 0 n) in
     let priority = map (λ e. length (rowOf sys e .vars)) (upFrom 0 (length sys)) in
@@ -100,10 +77,10 @@ start n sys =
       solved = [];
       dense = [];
       remaining = length sys;
-      cleared = 0;
+      denseDone = 0;
     }
 
--- ---- one pop
+-- ---- a pop from the equation list
 
 -- each of the equations loses 1 in priority ..
 unfoldable pub lowered : List ℕ → List ℕ → List ℕ
@@ -121,110 +98,107 @@ unfoldable pub addedInto : List ℕ → ℕ → List Equation → List Equation
 addedInto [] e rows = rows
 addedInto (f ∷ fs) e rows = addedInto fs e (set rows f (sum (rowOf rows f) (rowOf rows e)))
 
-abbrev pub isIdle : Lazy → ℕ → Bool
+abbrev pub isIdle : State → ℕ → Bool
 isIdle s v = getD (s .idle) v false
 
--- v is popped, and the variables vs are left: a solved variable, or one in no equation, is skipped
-unfoldable pub skip : List ℕ → Lazy → Lazy
-skip vs s =
-    record {
-      rows = s .rows;
-      priority = s .priority;
-      weight = s .weight;
-      idle = s .idle;
-      variables = vs;
-      equations = s .equations;
-      solved = s .solved;
-      dense = s .dense;
-      remaining = s .remaining;
-      cleared = s .cleared;
-    }
+-- the equation popped is passed over, and es are left
+unfoldable pub passOver : List ℕ → State → State
+passOver es s = record {
+  rows = s .rows;
+  priority = s .priority;
+  weight = s .weight;
+  idle = s .idle;
+  variables = s .variables;
+  equations = es;
+  solved = s .solved;
+  dense = s .dense;
+  remaining = pred (s .remaining);
+  denseDone = s .denseDone;
+}
 
--- v is popped and becomes active
-unfoldable pub activate : List Equation → ℕ → List ℕ → Lazy → Lazy
-activate sys v vs s =
-    record {
-      rows = s .rows;
-      priority = lowered (listing sys v) (s .priority);
-      weight = s .weight;
-      idle = set (s .idle) v false;
-      variables = vs;
-      equations = pushed (listing sys v) (s .priority) (s .equations);
-      solved = s .solved;
-      dense = s .dense;
-      remaining = s .remaining;
-      cleared = s .cleared;
-    }
+-- equation e is copied to the dense part
+unfoldable pub copy : ℕ → List ℕ → State → State
+copy e es s = record {
+  rows = s .rows;
+  priority = s .priority;
+  weight = s .weight;
+  idle = s .idle;
+  variables = s .variables;
+  equations = es;
+  solved = s .solved;
+  dense = s .dense ++ (rowOf (s .rows) e ∷ []);
+  remaining = pred (s .remaining);
+  denseDone = s .denseDone;
+}
 
--- an equation is popped, and the equations es are left: an identity is passed over
-unfoldable pub passOver : List ℕ → Lazy → Lazy
-passOver es s =
-    record {
-      rows = s .rows;
-      priority = s .priority;
-      weight = s .weight;
-      idle = s .idle;
-      variables = s .variables;
-      equations = es;
-      solved = s .solved;
-      dense = s .dense;
-      remaining = pred (s .remaining);
-      cleared = s .cleared;
-    }
+-- equation e solves v, whose weight becomes 0, and is added into the other equations that listed v at the start
+unfoldable pub solveFor : List Equation → ℕ → ℕ → List ℕ → State → State
+solveFor sys v e es s = record {
+  rows = addedInto (others sys v e) e (s .rows);
+  priority = lowered (others sys v e) (s .priority);
+  weight = set (s .weight) v 0;
+  idle = s .idle;
+  variables = s .variables;
+  equations = pushed (others sys v e) (s .priority) es;
+  solved = s .solved ++ (record { equation = e; pivot = v } ∷ []);
+  dense = s .dense;
+  remaining = pred (s .remaining);
+  denseDone = s .denseDone;
+}
 
--- equation e is popped and copied to the dense part
-unfoldable pub copy : ℕ → List ℕ → Lazy → Lazy
-copy e es s =
-    record {
-      rows = s .rows;
-      priority = s .priority;
-      weight = s .weight;
-      idle = s .idle;
-      variables = s .variables;
-      equations = es;
-      solved = s .solved;
-      dense = s .dense ++ (rowOf (s .rows) e ∷ []);
-      remaining = pred (s .remaining);
-      cleared = s .cleared;
-    }
-
--- equation e is popped and solved for v
-unfoldable pub solveFor : List Equation → ℕ → ℕ → List ℕ → Lazy → Lazy
-solveFor sys v e es s =
-    record {
-      rows = addedInto (others sys v e) e (s .rows);
-      priority = lowered (others sys v e) (s .priority);
-      weight = set (s .weight) v 0;
-      idle = s .idle;
-      variables = s .variables;
-      equations = pushed (others sys v e) (s .priority) es;
-      solved = s .solved ++ (record { equation = e; pivot = v } ∷ []);
-      dense = s .dense;
-      remaining = pred (s .remaining);
-      cleared = s .cleared;
-    }
-
--- equation e of priority 0 is popped
-unfoldable pub popDense : ℕ → List ℕ → Lazy → Result Lazy
+-- priority 0: an identity is passed over, a contradiction refused, another equation copied
+unfoldable pub popDense : ℕ → List ℕ → State → Result State
 popDense e es s =
     elim (rowOf (s .rows) e .vars) [
       | [] ↦ elim (rowOf (s .rows) e .c) [ zero ↦ ok (passOver es s) | suc _ ↦ unsolvable ]
       | _ ∷ _ ↦ ok (copy e es s)
     ]
 
--- equation e is popped: by its priority
-unfoldable pub popEquation : List Equation → ℕ → List ℕ → Lazy → Result Lazy
+-- priority 1: the one idle variable is solved; a higher priority does not come about
+unfoldable pub popEquation : List Equation → ℕ → List ℕ → State → Result State
 popEquation sys e es s =
     elim (getD (s .priority) e 0) [
       | zero ↦ popDense e es s
       | suc p ↦ elim p [ zero ↦ ok (solveFor sys (firstOf (isIdle s) (rowOf (s .rows) e .vars)) e es s) | suc _ ↦ ok (passOver es s) ]
     ]
 
-unfoldable pub popVariable : List Equation → ℕ → List ℕ → Lazy → Lazy
+-- ---- a pop from the variable list
+
+-- a variable of weight 0 is skipped, and vs are left
+unfoldable pub skip : List ℕ → State → State
+skip vs s = record {
+  rows = s .rows;
+  priority = s .priority;
+  weight = s .weight;
+  idle = s .idle;
+  variables = vs;
+  equations = s .equations;
+  solved = s .solved;
+  dense = s .dense;
+  remaining = s .remaining;
+  denseDone = s .denseDone;
+}
+
+-- v becomes active and lowers the priority of its equations
+unfoldable pub activate : List Equation → ℕ → List ℕ → State → State
+activate sys v vs s = record {
+  rows = s .rows;
+  priority = lowered (listing sys v) (s .priority);
+  weight = s .weight;
+  idle = set (s .idle) v false;
+  variables = vs;
+  equations = pushed (listing sys v) (s .priority) (s .equations);
+  solved = s .solved;
+  dense = s .dense;
+  remaining = s .remaining;
+  denseDone = s .denseDone;
+}
+
+unfoldable pub popVariable : List Equation → ℕ → List ℕ → State → State
 popVariable sys v vs s = elim (getD (s .weight) v 0) [ zero ↦ skip vs s | suc _ ↦ activate sys v vs s ]
 
--- with both lists empty nothing is popped: with equations remaining this does not come about
-unfoldable pub pop : List Equation → Lazy → Result Lazy
+-- from the equation list while it has one, else from the variable list; both are never empty while equations remain
+unfoldable pub pop : List Equation → State → Result State
 pop sys s =
     elim (s .equations) [
       | [] ↦ elim (s .variables) [ [] ↦ ok s | v ∷ vs ↦ ok (popVariable sys v vs s) ]
@@ -233,59 +207,80 @@ pop sys s =
 
 -- ---- the dense part and the filling
 
-unfoldable pub clear : Lazy → Result Lazy
-clear s =
-    elim (outerRow (s .cleared) (s .dense)) [
+-- one outer row of the dense part by the sparse rules
+unfoldable pub denseRow : State → Result State
+denseRow s =
+    elim (outerRow (s .denseDone) (s .dense)) [
       | unsolvable ↦ unsolvable
-      | ok rows ↦
-          ok (record {
-            rows = s .rows;
-            priority = s .priority;
-            weight = s .weight;
-            idle = s .idle;
-            variables = s .variables;
-            equations = s .equations;
-            solved = s .solved;
-            dense = rows;
-            remaining = s .remaining;
-            cleared = suc (s .cleared);
-          })
+      | ok rows ↦ ok (record {
+        rows = s .rows;
+        priority = s .priority;
+        weight = s .weight;
+        idle = s .idle;
+        variables = s .variables;
+        equations = s .equations;
+        solved = s .solved;
+        dense = rows;
+        remaining = s .remaining;
+        denseDone = suc (s .denseDone);
+      })
     ]
 
--- each solved equation gives its variable the value that meets it
+-- each solved equation gives its variable the value that meets it, in the order solved
 unfoldable pub fill : List Equation → List Solved → List ℕ → List ℕ
 fill rows [] x = x
 fill rows (d ∷ ds) x =
     let r = rowOf rows (d .equation) in
     fill rows ds (set x (d .pivot) (bitXor (r .c) (evalVars (r .vars) x)))
 
-unfoldable pub finish : ℕ → Lazy → Result (List ℕ)
-finish n s =
+-- the remaining checks and all filling
+unfoldable pub lastUnit : ℕ → State → Result (List ℕ)
+lastUnit n s =
     elim (contradicted (s .dense)) [ true ↦ unsolvable | false ↦ ok (fill (s .rows) (s .solved) (backSub (s .dense) (replicate n 0))) ]
 
--- ---- one unit
+-- ---- units
 
 pub data Build : Type 0 where
-  more : Lazy → Build
+  more : State → Build
   ended : Result (List ℕ) → Build
 
-abbrev pub goOn : Result Lazy → Build
+abbrev pub goOn : Result State → Build
 goOn unsolvable = ended unsolvable
 goOn (ok s) = more s
 
--- a pop while equations remain; then an outer row of the dense part, but for its last; then the last unit
-unfoldable pub unit : ℕ → List Equation → Lazy → Build
+-- a pop while equations remain; then an outer row of the dense part, its last not counted; then the last unit
+unfoldable pub unit : ℕ → List Equation → State → Build
 unit n sys s =
     elim (s .remaining) [
-      | zero ↦ elim (ltb (suc (s .cleared)) (length (s .dense))) [ true ↦ goOn (clear s) | false ↦ ended (finish n s) ]
+      | zero ↦ elim (ltb (suc (s .denseDone)) (length (s .dense))) [ true ↦ goOn (denseRow s) | false ↦ ended (lastUnit n s) ]
       | suc _ ↦ goOn (pop sys s)
     ]
 
+-- the build after k units more
 unfoldable pub after : ℕ → ℕ → List Equation → Build → Build
 after zero n sys b = b
 after (suc k) n sys (more s) = after k n sys (unit n sys s)
 after (suc k) n sys (ended r) = ended r
 
--- the whole: 2m + n + 1 units are enough
-unfoldable pub lazySolve : ℕ → List Equation → Build
-lazySolve n sys = after (length sys + length sys + n + 1) n sys (more (start n sys))
+-- the units that a turn of k units uses: all, or fewer where the build ends in it or has ended
+unfoldable pub used : ℕ → ℕ → List Equation → Build → ℕ
+used zero n sys b = 0
+used (suc k) n sys (more s) = suc (used k n sys (unit n sys s))
+used (suc k) n sys (ended r) = 0
+
+-- ---- the whole
+
+-- 2m + n + 1 units are enough
+unfoldable pub enough : ℕ → List Equation → ℕ
+enough n sys = length sys + length sys + n + 1
+
+unfoldable pub wholeRun : ℕ → List Equation → Build
+wholeRun n sys = after (enough n sys) n sys (more (start n sys))
+
+-- a build that has not ended has no answer; the whole run always ends
+abbrev pub answerOf : Build → Result (List ℕ)
+answerOf (more s) = unsolvable
+answerOf (ended r) = r
+
+unfoldable pub lazyElimination : ℕ → List Equation → Result (List ℕ)
+lazyElimination n sys = answerOf (wholeRun n sys)

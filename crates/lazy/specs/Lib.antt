@@ -1,1 +1,4 @@
 pub mod Lazy
+pub mod Invariant
+pub mod Description
+pub mod Rank

@@ -1,1 +1,1 @@
-// Lazy Gaussian elimination over two elements: the rules, a unit at a time, and their laws; no code.
+// Lazy Gaussian elimination over two elements.
