@@ -6,6 +6,7 @@ pub mod VarLists
 pub mod Order
 pub mod Members
 pub mod Selecting
+pub mod Counting
 pub mod Values
 pub mod Spans
 pub mod Sums

@@ -1,15 +1,16 @@
--- What selecting by a test keeps, and how many pass it.
-use mathlib.Core.Path.{_≡_, refl, sym, ap, ap₂, _∙_}
+-- Numbers counted up, and what selecting by a test keeps.
+use mathlib.Core.Path.{_≡_, refl, sym, ap, _∙_, subst}
 use mathlib.Core.Logic.{_≢_}
-use mathlib.Core.List.{List, [], _∷_}
-use mathlib.Core.Bool.{Bool, true, false, cond, _&&_, _||_, false≢true}
+use mathlib.Core.List.{List, [], _∷_, map}
+use mathlib.Core.Bool.{Bool, true, false, not, cond, _&&_, _||_, true≢false, false≢true}
 use Prim.Native.Nat.{ℕ, zero, suc, _+_, _≤_, _<_}
 use native.Mathlib.Omega.{arith}
+use lib.ListN.{length, getD}
 use lib.Dec.{eqb}
-use Rattle.gf2.specs.Equation.{Above, Increasing, lists}
-use Rattle.gf2.specs.NumberLists.{upFrom, keep, firstOf, one, count, Distinct}
-use Rattle.gf2.proofs.Tests.{eqb-same}
-use Rattle.gf2.proofs.Members.{Same, eq, ne, same?, or-r}
+use Rattle.gf2.specs.Equation.{Each, Above, Increasing, lists}
+use Rattle.gf2.specs.NumberLists.{upFrom, keep, firstOf, Distinct}
+use Rattle.gf2.proofs.Tests.{eqb-same, eqb-ne}
+use Rattle.gf2.proofs.Members.{Same, eq, ne, same?, or-r, and-true, head-listed, tail-listed}
 
 -- ---- selection
 
@@ -82,45 +83,91 @@ firstOf-true p v (u ∷ us) h q = go (p u) refl (same? v u) (firstOf-true p v us
     go false e (eq r t) ih = absurd (false≢true (sym e ∙ ap p (sym r) ∙ q))
     go false e (ne r t) ih = let k = ih (rw t at h) q in (k .0, or-r (eqb (firstOf p us) u) (k .1))
 
--- ---- counting
-
--- one test passes v, the other does not, and they agree elsewhere
-pub count-drop : (p q : ℕ → Bool) (v : ℕ) → p v ≡ true → q v ≡ false → ((u : ℕ) → u ≢ v → q u ≡ p u)
-    → (l : List ℕ) → Distinct l → count p l ≡ one (lists v l) + count q l
-unfolding count lists one
-count-drop p q v pv qv same [] h = refl
-count-drop p q v pv qv same (u ∷ us) h = go (same? v u) (count-drop p q v pv qv same us (h .1))
+-- what holds of each of the list holds of each that is kept
+pub each-keep : (Q : ℕ → Type 0) (p : ℕ → Bool) (l : List ℕ) → Each Q l → Each Q (keep p l)
+unfolding keep
+each-keep Q p [] h = tt
+each-keep Q p (v ∷ vs) h = go (p v) (each-keep Q p vs (h .1))
   where
-    go : Same v u → count p us ≡ one (lists v us) + count q us
-        → one (p u) + count p us ≡ one (eqb v u || lists v us) + (one (q u) + count q us)
-    go (eq r t) ih = rw (t, ← r, pv, qv, ih, r, h .0) (omega arith)
-    go (ne r t) ih = rw (t, same u (λ e. r (sym e)), ih) (omega arith)
+    go : (b : Bool) → Each Q (keep p vs) → Each Q (cond b (v ∷ keep p vs) (keep p vs))
+    go true ih = (h .0, ih)
+    go false ih = ih
 
--- two tests that agree on the list
-pub count-same : (p q : ℕ → Bool) (l : List ℕ) → ((u : ℕ) → lists u l ≡ true → q u ≡ p u) → count p l ≡ count q l
-unfolding count lists
-count-same p q [] h = refl
-count-same p q (u ∷ us) h =
-    ap₂ (λ a b. one a + b) (sym (h u (ap (λ t. t || lists u us) (eqb-same u)))) (count-same p q us (λ w k. h w (or-r (eqb w u) k)))
-
--- a count that is not 0 has a witness
-pub count-some : (p : ℕ → Bool) (l : List ℕ) → 0 < count p l → (v : ℕ) × (p v ≡ true) × (lists v l ≡ true)
-unfolding count lists one
-count-some p [] h = absurd (omega arith)
-count-some p (u ∷ us) h = go (p u) refl (count-some p us)
+pub increasing-keep : (p : ℕ → Bool) (l : List ℕ) → Increasing l → Increasing (keep p l)
+unfolding keep
+increasing-keep p [] h = tt
+increasing-keep p (v ∷ vs) h = go (p v) (increasing-keep p vs (h .1))
   where
-    go : (b : Bool) → p u ≡ b → (0 < count p us → (v : ℕ) × (p v ≡ true) × (lists v us ≡ true))
-        → (v : ℕ) × (p v ≡ true) × ((eqb v u || lists v us) ≡ true)
-    go true e ih = (u, e, ap (λ t. t || lists u us) (eqb-same u))
-    go false e ih =
-        let k = ih (omega (arith, rw e at h)) in
-        (k .0, k .1, or-r (eqb (k .0) u) (k .2))
+    go : (b : Bool) → Increasing (keep p vs) → Increasing (cond b (v ∷ keep p vs) (keep p vs))
+    go true ih = (each-keep (λ u. v < u) p vs (h .0), ih)
+    go false ih = ih
 
-pub count-one : (p : ℕ → Bool) (v : ℕ) (l : List ℕ) → p v ≡ true → lists v l ≡ true → 0 < count p l
-unfolding count lists one
-count-one p v [] e h = absurd (false≢true h)
-count-one p v (u ∷ us) e h = go (same? v u) (count-one p v us e)
+pub keep-same : (p q : ℕ → Bool) (l : List ℕ) → ((v : ℕ) → lists v l ≡ true → p v ≡ q v) → keep p l ≡ keep q l
+unfolding keep lists
+keep-same p q [] h = refl
+keep-same p q (v ∷ vs) h = rw (h v (head-listed v vs), keep-same p q vs (λ u k. h u (tail-listed u v vs k)))
+
+pub length-keep : (p : ℕ → Bool) (l : List ℕ) → length (keep p l) ≤ length l
+unfolding keep
+length-keep p [] = omega arith
+length-keep p (v ∷ vs) = go (p v) (length-keep p vs)
   where
-    go : Same v u → (lists v us ≡ true → 0 < count p us) → 0 < one (p u) + count p us
-    go (eq r t) ih = rw (← r, e) (omega arith)
-    go (ne r t) ih = let k : 0 < count p us = ih (rw t at h) in omega arith
+    go : (b : Bool) → length (keep p vs) ≤ length vs → length (cond b (v ∷ keep p vs) (keep p vs)) ≤ suc (length vs)
+    go true h = omega arith
+    go false h = omega arith
+
+pub length-zero : (l : List ℕ) (v : ℕ) → length l ≡ 0 → lists v l ≡ false
+unfolding lists
+length-zero [] v h = refl
+length-zero (x ∷ xs) v h = absurd (omega arith)
+
+pub length-up : (k n : ℕ) → length (upFrom k n) ≡ n
+unfolding upFrom
+length-up k zero = refl
+length-up k (suc n) = ap suc (length-up (suc k) n)
+
+pub getD-map-up : (f : ℕ → ℕ) (k n i : ℕ) → i < n → getD (map f (upFrom k n)) i 0 ≡ f (k + i)
+unfolding upFrom
+getD-map-up f k zero i h = absurd (omega arith)
+getD-map-up f k (suc n) zero h = ap f (omega arith)
+getD-map-up f k (suc n) (suc i) h = getD-map-up f (suc k) n i (omega arith) ∙ ap f (omega arith)
+
+-- ---- how long a distinct list is
+
+-- a number that is not listed takes nothing away
+keep-all : (w : ℕ) (l : List ℕ) → lists w l ≡ false → length (keep (λ v. not (eqb v w)) l) ≡ length l
+unfolding keep lists
+keep-all w [] h = refl
+keep-all w (u ∷ us) h = go (same? w u) (keep-all w us)
+  where
+    go : Same w u → (lists w us ≡ false → length (keep (λ v. not (eqb v w)) us) ≡ length us)
+        → length (cond (not (eqb u w)) (u ∷ keep (λ v. not (eqb v w)) us) (keep (λ v. not (eqb v w)) us)) ≡ suc (length us)
+    go (eq r t) ih = absurd (true≢false (rw t at h))
+    go (ne r t) ih = rw (eqb-ne u w (λ p. r (sym p))) (ap suc (ih (rw t at h)))
+
+-- without one number a distinct list is at most one shorter
+without : (w : ℕ) (l : List ℕ) → Distinct l → length l ≤ suc (length (keep (λ v. not (eqb v w)) l))
+unfolding keep
+without w [] d = omega arith
+without w (v ∷ vs) d = go (same? v w) (without w vs (d .1))
+  where
+    go : Same v w → length vs ≤ suc (length (keep (λ v. not (eqb v w)) vs))
+        → suc (length vs) ≤ suc (length (cond (not (eqb v w)) (v ∷ keep (λ v. not (eqb v w)) vs) (keep (λ v. not (eqb v w)) vs)))
+    go (eq r t) ih = rw t (let k = keep-all w vs (subst (λ x. lists x vs ≡ false) r (d .0)) in let z : suc (length vs) ≤ suc (length (keep (λ v. not (eqb v w)) vs)) = omega arith in z)
+    go (ne r t) ih = rw t (let z : suc (length vs) ≤ suc (suc (length (keep (λ v. not (eqb v w)) vs))) = omega arith in z)
+
+-- a distinct list of numbers below m has at most m
+pub distinct-room : (m : ℕ) (l : List ℕ) → Distinct l → ((v : ℕ) → lists v l ≡ true → v < m) → length l ≤ m
+distinct-room zero [] d h = omega arith
+distinct-room zero (v ∷ vs) d h = let k = h v (head-listed v vs) in absurd (omega arith)
+distinct-room (suc m) l d h =
+    let a = without m l d in
+    let b = distinct-room m (keep (λ v. not (eqb v m)) l) (distinct-keep (λ v. not (eqb v m)) l d) (λ v k. go v k) in
+    omega arith
+  where
+    go : (v : ℕ) → lists v (keep (λ v. not (eqb v m)) l) ≡ true → v < m
+    go v k =
+        let p = and-true (not (eqb v m)) (lists v l) (sym (lists-keep (λ v. not (eqb v m)) v l) ∙ k) in
+        let b = h v (p .1) in
+        let n : v ≢ m = λ e. true≢false (sym (p .0) ∙ ap (λ x. not (eqb x m)) e ∙ rw (eqb-same m)) in
+        omega arith

@@ -6,28 +6,28 @@ use Rattle.gf2.specs.Equation.{Equation, eqn, evalVars, lists, symDiff}
 use Rattle.gf2.specs.NumberLists.{upFrom, downFrom, keep, firstOf}
 use Rattle.gf2.specs.Result.{Result, unsolvable, ok}
 use Rattle.sparse.specs.Eliminate.{summed, meeting, meetRow, outerRow, contradicted, pin, backSub}
-use Rattle.lazy.specs.Lazy.{listing, others, ofWeight, heaviest, start, lowered, pushed, addedInto, skip, activate, passOver, copy, solveFor, popDense, popEquation, popVariable, pop, denseRow, fill, lastUnit, unit, after, enough, wholeRun, lazyElimination}
+use Rattle.lazy.specs.Lazy.{listing, others, heaviest, start, lowered, pushed, addedInto, skip, activate, passOver, copy, solveFor, popDense, popEquation, popVariable, pop, denseRow, fill, lastUnit, unit, after, wholeRun, lazyElimination}
 
 pub P1 : lazyElimination 3 [] ≡ ok (0 ∷ 0 ∷ 0 ∷ [])
-unfolding lazyElimination wholeRun enough after unit pop popEquation popVariable popDense passOver copy solveFor skip activate lowered pushed addedInto denseRow lastUnit fill start heaviest ofWeight listing others upFrom downFrom keep firstOf lists outerRow meetRow meeting summed contradicted backSub pin symDiff evalVars
+unfolding lazyElimination wholeRun after unit pop popEquation popVariable popDense passOver copy solveFor skip activate lowered pushed addedInto denseRow lastUnit fill start heaviest listing others upFrom downFrom keep firstOf lists outerRow meetRow meeting summed contradicted backSub pin symDiff evalVars
 P1 = refl
 
 pub P2-solved : lazyElimination 0 (eqn [] 0 ∷ []) ≡ ok []
-unfolding lazyElimination wholeRun enough after unit pop popEquation popVariable popDense passOver copy solveFor skip activate lowered pushed addedInto denseRow lastUnit fill start heaviest ofWeight listing others upFrom downFrom keep firstOf lists outerRow meetRow meeting summed contradicted backSub pin symDiff evalVars
+unfolding lazyElimination wholeRun after unit pop popEquation popVariable popDense passOver copy solveFor skip activate lowered pushed addedInto denseRow lastUnit fill start heaviest listing others upFrom downFrom keep firstOf lists outerRow meetRow meeting summed contradicted backSub pin symDiff evalVars
 P2-solved = refl
 
 pub P2-unsolvable : lazyElimination 0 (eqn [] 1 ∷ []) ≡ unsolvable
-unfolding lazyElimination wholeRun enough after unit pop popEquation popVariable popDense passOver copy solveFor skip activate lowered pushed addedInto denseRow lastUnit fill start heaviest ofWeight listing others upFrom downFrom keep firstOf lists outerRow meetRow meeting summed contradicted backSub pin symDiff evalVars
+unfolding lazyElimination wholeRun after unit pop popEquation popVariable popDense passOver copy solveFor skip activate lowered pushed addedInto denseRow lastUnit fill start heaviest listing others upFrom downFrom keep firstOf lists outerRow meetRow meeting summed contradicted backSub pin symDiff evalVars
 P2-unsolvable = refl
 
 pub P3 : lazyElimination 3 (eqn (0 ∷ 1 ∷ []) 5 ∷ eqn (1 ∷ 2 ∷ []) 3 ∷ eqn (0 ∷ 2 ∷ []) 6 ∷ []) ≡ ok (6 ∷ 3 ∷ 0 ∷ [])
-unfolding lazyElimination wholeRun enough after unit pop popEquation popVariable popDense passOver copy solveFor skip activate lowered pushed addedInto denseRow lastUnit fill start heaviest ofWeight listing others upFrom downFrom keep firstOf lists outerRow meetRow meeting summed contradicted backSub pin symDiff evalVars
+unfolding lazyElimination wholeRun after unit pop popEquation popVariable popDense passOver copy solveFor skip activate lowered pushed addedInto denseRow lastUnit fill start heaviest listing others upFrom downFrom keep firstOf lists outerRow meetRow meeting summed contradicted backSub pin symDiff evalVars
 P3 = refl
 
 pub P4 : lazyElimination 3 (eqn (0 ∷ 1 ∷ []) 5 ∷ eqn (1 ∷ 2 ∷ []) 3 ∷ eqn (0 ∷ 2 ∷ []) 7 ∷ []) ≡ unsolvable
-unfolding lazyElimination wholeRun enough after unit pop popEquation popVariable popDense passOver copy solveFor skip activate lowered pushed addedInto denseRow lastUnit fill start heaviest ofWeight listing others upFrom downFrom keep firstOf lists outerRow meetRow meeting summed contradicted backSub pin symDiff evalVars
+unfolding lazyElimination wholeRun after unit pop popEquation popVariable popDense passOver copy solveFor skip activate lowered pushed addedInto denseRow lastUnit fill start heaviest listing others upFrom downFrom keep firstOf lists outerRow meetRow meeting summed contradicted backSub pin symDiff evalVars
 P4 = refl
 
 pub P5 : lazyElimination 3 (eqn (0 ∷ 1 ∷ []) 1 ∷ eqn (0 ∷ 2 ∷ []) 2 ∷ []) ≡ ok (0 ∷ 1 ∷ 2 ∷ [])
-unfolding lazyElimination wholeRun enough after unit pop popEquation popVariable popDense passOver copy solveFor skip activate lowered pushed addedInto denseRow lastUnit fill start heaviest ofWeight listing others upFrom downFrom keep firstOf lists outerRow meetRow meeting summed contradicted backSub pin symDiff evalVars
+unfolding lazyElimination wholeRun after unit pop popEquation popVariable popDense passOver copy solveFor skip activate lowered pushed addedInto denseRow lastUnit fill start heaviest listing others upFrom downFrom keep firstOf lists outerRow meetRow meeting summed contradicted backSub pin symDiff evalVars
 P5 = refl

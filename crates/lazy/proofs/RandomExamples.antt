@@ -6,7 +6,7 @@ use Rattle.gf2.specs.Equation.{Equation, eqn, evalVars, lists, symDiff}
 use Rattle.gf2.specs.NumberLists.{upFrom, downFrom, keep, firstOf}
 use Rattle.gf2.specs.Result.{Result, unsolvable, ok}
 use Rattle.sparse.specs.Eliminate.{summed, meeting, meetRow, outerRow, contradicted, pin, backSub}
-use Rattle.lazy.specs.Lazy.{listing, others, ofWeight, heaviest, start, lowered, pushed, addedInto, skip, activate, passOver, copy, solveFor, popDense, popEquation, popVariable, pop, denseRow, fill, lastUnit, more, unit, after, used, enough, wholeRun, lazyElimination}
+use Rattle.lazy.specs.Lazy.{listing, others, heaviest, start, lowered, pushed, addedInto, skip, activate, passOver, copy, solveFor, popDense, popEquation, popVariable, pop, denseRow, fill, lastUnit, more, unit, after, used, enough, wholeRun, lazyElimination}
 
 record System : Type 0 where
   n : ℕ
@@ -107,9 +107,9 @@ units : List ℕ
 units = 6 ∷ 3 ∷ 3 ∷ 3 ∷ 2 ∷ 6 ∷ 6 ∷ 8 ∷ 6 ∷ 6 ∷ 7 ∷ 6 ∷ 6 ∷ 8 ∷ 6 ∷ 5 ∷ 8 ∷ 6 ∷ 3 ∷ 6 ∷ 2 ∷ 4 ∷ 3 ∷ 7 ∷ 6 ∷ 4 ∷ 4 ∷ 4 ∷ 6 ∷ 11 ∷ 3 ∷ 4 ∷ 12 ∷ 5 ∷ 2 ∷ 3 ∷ 1 ∷ 6 ∷ 5 ∷ 9 ∷ []
 
 random : map (λ (q : System). lazyElimination (q .n) (q .equations)) systems ≡ answers
-unfolding systems answers lazyElimination wholeRun enough after used unit pop popEquation popVariable popDense passOver copy solveFor skip activate lowered pushed addedInto denseRow lastUnit fill start heaviest ofWeight listing others upFrom downFrom keep firstOf lists outerRow meetRow meeting summed contradicted backSub pin symDiff evalVars
+unfolding systems answers lazyElimination wholeRun after used unit pop popEquation popVariable popDense passOver copy solveFor skip activate lowered pushed addedInto denseRow lastUnit fill start heaviest listing others upFrom downFrom keep firstOf lists outerRow meetRow meeting summed contradicted backSub pin symDiff evalVars
 random = refl
 
 random-units : map (λ (q : System). used (enough (q .n) (q .equations)) (q .n) (q .equations) (more (start (q .n) (q .equations)))) systems ≡ units
-unfolding systems units wholeRun enough after used unit pop popEquation popVariable popDense passOver copy solveFor skip activate lowered pushed addedInto denseRow lastUnit fill start heaviest ofWeight listing others upFrom downFrom keep firstOf lists outerRow meetRow meeting summed contradicted backSub pin symDiff evalVars
+unfolding systems units wholeRun after used unit pop popEquation popVariable popDense passOver copy solveFor skip activate lowered pushed addedInto denseRow lastUnit fill start heaviest listing others upFrom downFrom keep firstOf lists outerRow meetRow meeting summed contradicted backSub pin symDiff evalVars
 random-units = refl

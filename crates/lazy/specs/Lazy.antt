@@ -53,7 +53,7 @@ pub record State : Type 0 where
   pub denseDone : ℕ
 
 -- the variables below n whose weight is w
-unfoldable pub ofWeight : List ℕ → ℕ → ℕ → List ℕ
+abbrev pub ofWeight : List ℕ → ℕ → ℕ → List ℕ
 ofWeight weight n w = keep (λ v. eqb (getD weight v 0) w) (downFrom n)
 
 -- those of weight w or less from the heavy end: by weight, then by number
@@ -271,7 +271,7 @@ used (suc k) n sys (ended r) = 0
 -- ---- the whole
 
 -- 2m + n + 1 units are enough
-unfoldable pub enough : ℕ → List Equation → ℕ
+abbrev pub enough : ℕ → List Equation → ℕ
 enough n sys = length sys + length sys + n + 1
 
 unfoldable pub wholeRun : ℕ → List Equation → Build
