@@ -12,7 +12,7 @@ use Rattle.areas.specs.Rows.{padded, laid, Narrow}
 use Rattle.areas.specs.Segments.{joined, offset}
 use Rattle.areas.proofs.Rows.{length-padded, length-laid}
 use Rattle.areas.proofs.Segments.{length-joined}
-use Rattle.lazy.specs.Lazy.{Lazy, Solved, listing}
+use Rattle.lazy.specs.Lazy.{State, listing}
 use Rattle.lazy_setup.specs.declared.Layout.{Layout}
 use Rattle.lazy_setup.specs.Area.{mark, segments, listsFrom, startsFrom, lengths, rowsOf, densePart, numbersOf}
 use Rattle.lazy_setup.specs.Layout.{sizes, Shaped, layoutOf, Sized}
@@ -116,7 +116,7 @@ unfolding startsFrom
 length-startsFrom sys a k zero = refl
 length-startsFrom sys a k (suc n) = let e = length-startsFrom sys (a + length (listing sys k)) (suc k) n in omega arith
 
-pub shaped : (n : ℕ) (sys : List Equation) (s : Lazy) → Sized n sys s → Shaped n (length sys) (length (listsFrom sys 0 n)) (segments n sys s)
+pub shaped : (n : ℕ) (sys : List Equation) (s : State) → Sized n sys s → Shaped n (length sys) (length (listsFrom sys 0 n)) (segments n sys s)
 unfolding segments
 shaped n sys s z =
     cons rows (cons (length-map (s .rows) (λ r. length (r .vars)) ∙ z .rows) (cons refl (cons (length-startsFrom sys 0 0 n) (cons (z .weight)

@@ -6,7 +6,7 @@ use lib.ListN.{length, replicate}
 use Rattle.gf2.specs.Equation.{Equation}
 use Rattle.areas.specs.Rows.{padded, laid}
 use Rattle.areas.specs.Segments.{joined}
-use Rattle.lazy.specs.Lazy.{Lazy, Solved, listing, upFrom}
+use Rattle.lazy.specs.Lazy.{State, Solved, listing}
 
 -- an idle variable is marked by 1
 abbrev pub mark : Bool → ℕ
@@ -34,7 +34,7 @@ abbrev pub densePart : ℕ → ℕ → List Equation → List ℕ
 densePart n m dense = padded (m * n) (rowsOf n dense) ++ (replicate n 0 ++ padded m (lengths dense))
 
 -- the numbers, in the order in which they stand; between units position and count are zero
-unfoldable pub segments : ℕ → List Equation → Lazy → List (List ℕ)
+unfoldable pub segments : ℕ → List Equation → State → List (List ℕ)
 segments n sys s =
     let m = length sys in
     rowsOf n (s .rows)
@@ -53,9 +53,9 @@ segments n sys s =
     ∷ densePart n m (s .dense)
     ∷ []
 
-unfoldable pub numbersOf : ℕ → List Equation → Lazy → List ℕ
+unfoldable pub numbersOf : ℕ → List Equation → State → List ℕ
 numbersOf n sys s = joined (segments n sys s)
 
 -- the words: the constants, and those of the dense part
-unfoldable pub wordsOf : List Equation → Lazy → List ℕ
+unfoldable pub wordsOf : List Equation → State → List ℕ
 wordsOf sys s = map (λ r. r .c) (s .rows) ++ padded (length sys) (map (λ r. r .c) (s .dense))

@@ -5,7 +5,7 @@ use Prim.Native.Nat.{ℕ, _+_, _*_, _≤_}
 use lib.ListN.{length}
 use Rattle.gf2.specs.Equation.{Equation}
 use Rattle.areas.specs.Rows.{Narrow}
-use Rattle.lazy.specs.Lazy.{Lazy}
+use Rattle.lazy.specs.Lazy.{State}
 use Rattle.lazy_setup.specs.declared.Layout.{Layout}
 use Rattle.lazy_setup.specs.declared.Stand.{Stand}
 use Rattle.lazy_setup.specs.Area.{segments}
@@ -37,7 +37,7 @@ layoutOf n m t =
     }
 
 -- the parts of a state have the lengths that the areas are made for
-pub record Sized (n : ℕ) (sys : List Equation) (s : Lazy) : Type 0 where
+pub record Sized (n : ℕ) (sys : List Equation) (s : State) : Type 0 where
   pub rows : length (s .rows) ≡ length sys
   pub narrow : Narrow n (map (λ r. r .vars) (s .rows))
   pub weight : length (s .weight) ≡ n
@@ -50,7 +50,7 @@ pub record Sized (n : ℕ) (sys : List Equation) (s : Lazy) : Type 0 where
   pub dense-narrow : Narrow n (map (λ r. r .vars) (s .dense))
 
 -- how far the lists of a state reach
-unfoldable pub standOf : Lazy → Stand
+unfoldable pub standOf : State → Stand
 standOf s =
     record {
       variables = length (s .variables);
@@ -58,5 +58,5 @@ standOf s =
       solved = length (s .solved);
       dense = length (s .dense);
       remaining = s .remaining;
-      cleared = s .cleared;
+      done = s .denseDone;
     }

@@ -28,7 +28,7 @@ pub struct Stand {
     pub solved: usize,
     pub dense: usize,
     pub remaining: usize,
-    pub cleared: usize,
+    pub done: usize,
 }
 
 impl Layout {
