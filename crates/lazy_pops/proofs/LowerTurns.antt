@@ -14,9 +14,10 @@ use lib.Dec.{eqb}
 use Rattle.gf2.proofs.Tests.{eqb-same, eqb-ne}
 use Rattle.areas.specs.Stretch.{stretch, put}
 use Rattle.areas.proofs.Stretch.{length-stretch, length-put, put-stretch, put-comm, put-append, put-put-inside, set-is-put, getD-stretch, getD-put, getD-put-before}
-use Rattle.lazy.specs.Lazy.{keep, lowered, pushed}
+use Rattle.gf2.specs.NumberLists.{keep}
+use Rattle.lazy.specs.Lazy.{lowered, pushed}
 use Rattle.lazy_pops.specs.Lowering.{but, Lowers, LowerFits, LowerOneFits, nowPushed, loweredIn, lowerOne, topAfter}
-use Rattle.lazy_pops.proofs.Stacks.{but-same, but-other, lowered-cons, pushed-on, pushed-two, pushed-longer, length-lowered}
+use Rattle.lazy_pops.proofs.Stacks.{but-same, but-other, lowered-cons, pushed-on, pushed-two, pushed-longer}
 
 -- one more after what was written
 put-snoc : (b n : ℕ) (s : List ℕ) (v : ℕ) (l : List ℕ) → length s ≡ n → b + n < length l → put b (s ++ (v ∷ [])) l ≡ put (b + n) (v ∷ []) (put b s l)

@@ -1,19 +1,16 @@
 -- A stack in an area, its top first, and lists without one of their elements.
-use mathlib.Core.Path.{_≡_, refl, sym, ap, _∙_}
+use mathlib.Core.Path.{_≡_, refl}
 use mathlib.Core.Logic.{_≢_}
-use mathlib.Core.List.{List, [], _∷_, _++_, reverse, reverse-cons}
+use mathlib.Core.List.{List, [], _∷_}
 use mathlib.Core.Bool.{Bool, true, false, not, cond}
-use Prim.Native.Nat.{ℕ, zero, suc, pred, _≤_}
+use Prim.Native.Nat.{ℕ, pred, _≤_}
 use native.Mathlib.Omega.{arith}
-use lib.ListN.{length, getD, set, length-set}
+use lib.ListN.{length, getD, set}
 use lib.Dec.{eqb}
 use Rattle.gf2.proofs.Tests.{eqb-same, eqb-ne}
-use Rattle.lazy.specs.Lazy.{keep, lowered, pushed}
+use Rattle.gf2.specs.NumberLists.{keep}
+use Rattle.lazy.specs.Lazy.{lowered, pushed}
 use Rattle.lazy_pops.specs.Lowering.{but}
-
--- to push is to write past what is in use
-pub reverse-push : (x : ℕ) (l : List ℕ) → reverse (x ∷ l) ≡ reverse l ++ (x ∷ [])
-reverse-push x l = reverse-cons x l
 
 pub but-same : (e : ℕ) (f : ℕ) (fs : List ℕ) → f ≡ e → but e (f ∷ fs) ≡ but e fs
 unfolding keep
@@ -46,8 +43,3 @@ pushed-longer (e ∷ es) priority equations = go (eqb (getD priority e 0) 2) (pu
         → length equations ≤ length (pushed es (set priority e (pred (getD priority e 0))) (cond b (e ∷ equations) equations))
     go true ih = let h = ih (e ∷ equations) in omega arith
     go false ih = ih equations
-
-pub length-lowered : (es priority : List ℕ) → length (lowered es priority) ≡ length priority
-unfolding lowered
-length-lowered [] priority = refl
-length-lowered (e ∷ es) priority = length-lowered es (set priority e (pred (getD priority e 0))) ∙ simp length-set

@@ -1,1 +1,3 @@
 pub mod Lowering
+pub mod Laid
+pub mod Writes

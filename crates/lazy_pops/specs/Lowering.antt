@@ -6,7 +6,8 @@ use Prim.Native.Nat.{ℕ, pred, _+_, _-_, _≤_, _<_}
 use lib.ListN.{length, getD, set}
 use lib.Dec.{eqb}
 use Rattle.areas.specs.Stretch.{stretch, put}
-use Rattle.lazy.specs.Lazy.{keep, lowered, pushed}
+use Rattle.gf2.specs.NumberLists.{keep}
+use Rattle.lazy.specs.Lazy.{lowered, pushed}
 
 -- the list without equation e
 abbrev pub but : ℕ → List ℕ → List ℕ
