@@ -5,3 +5,4 @@ pub mod Segments
 pub mod Zeroing
 pub mod Copying
 pub mod Exchanging
+pub mod Cells

@@ -73,6 +73,20 @@ pub getD-padded : (n i : ℕ) (vs : List ℕ) → getD (padded n vs) i 0 ≡ get
 unfolding padded
 getD-padded n i vs = before-zeros (n - length vs) i vs
 
+-- a row with no number past the first k: to write k of them is to write it whole
+pub put-padded : (n k b : ℕ) (us vs area : List ℕ) → stretch b n area ≡ padded n us → length us ≤ k → length vs ≤ k → k ≤ n → b + n ≤ length area
+    → put b (padded k vs) area ≡ put b (padded n vs) area
+put-padded n k b us vs area e g g′ j w =
+    let p : length (padded k vs) ≡ k = length-padded k vs g′ in
+    let z : stretch (b + k) (n - k) area ≡ replicate (n - k) 0 =
+    sym (stretch-stretch k (n - k) b n area (omega arith))
+    ∙ rw (e, padded-split n k us g j)
+    (stretch-last k (n - k) (padded k us) (replicate (n - k) 0) (length-padded k us g) (length-replicate {A = ℕ} (n - k) 0)) in
+    let same : put (b + k) (replicate (n - k) 0) area ≡ area = rw (← z) (put-stretch (b + k) (n - k) area (omega arith)) in
+    ap (λ (l : List ℕ). put b (padded k vs) l) (sym (rw p same))
+    ∙ sym (put-append b (padded k vs) (replicate (n - k) 0) area (omega arith))
+    ∙ rw (← (padded-split n k vs g′ j))
+
 -- ---- the rows
 
 pub laid-nil : (n : ℕ) → laid n [] ≡ []
@@ -179,17 +193,8 @@ pub put-row : (n i k : ℕ) (vs : List ℕ) (rows : List (List ℕ)) (rest : Lis
     → length (getD rows i []) ≤ k → length vs ≤ k → k ≤ n
     → put (i * n) (padded k vs) (laid n rows ++ rest) ≡ laid n (set rows i vs) ++ rest
 put-row n i k vs rows rest f h g g′ j =
-    let area : List ℕ = laid n rows ++ rest in
-    let p : length (padded k vs) ≡ k = length-padded k vs g′ in
-    let z : stretch (i * n + k) (n - k) area ≡ replicate (n - k) 0 =
-    sym (stretch-stretch k (n - k) (i * n) n area (omega arith))
-    ∙ rw (stretch-laid n i rows rest f h, padded-split n k (getD rows i []) g j)
-    (stretch-last k (n - k) (padded k (getD rows i [])) (replicate (n - k) 0) (length-padded k (getD rows i []) g) (length-replicate {A = ℕ} (n - k) 0)) in
-    let w : i * n + n ≤ length area = row-within n i rows rest f h in
-    let same : put (i * n + k) (replicate (n - k) 0) area ≡ area = rw (← z) (put-stretch (i * n + k) (n - k) area (omega arith)) in
-    ap (λ (l : List ℕ). put (i * n) (padded k vs) l) (sym (rw p same))
-    ∙ sym (put-append (i * n) (padded k vs) (replicate (n - k) 0) area (omega arith))
-    ∙ rw (← (padded-split n k vs g′ j)) (put-laid n i vs rows rest f (omega arith) h)
+    put-padded n k (i * n) (getD rows i []) vs (laid n rows ++ rest) (stretch-laid n i rows rest f h) g g′ j (row-within n i rows rest f h)
+    ∙ put-laid n i vs rows rest f (omega arith) h
 
 -- two rows change places: no more is moved than the longer one has
 pub exchanged-rows : (n i j k : ℕ) (rows : List (List ℕ)) (rest : List ℕ) → Narrow n rows → i < j → j < length rows

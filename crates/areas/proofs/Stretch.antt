@@ -6,7 +6,7 @@ use native.Mathlib.Nat.{add-zero, zero-add, zero-sub, suc-sub-suc, sub-zero, add
 use native.Mathlib.Numerals.{add-one}
 use native.Mathlib.Omega.{arith}
 use lib.ListN.{length, take, drop, getD, set, replicate, length-append, length-drop, length-replicate, replicate-append-replicate, take-append-drop, drop-of-length-le, List·getD-append}
-use lib.Seq.{length-take-le, take-all, take-length, take-nil, take-suc, drop-cons, take-append-seam, take-append-le, drop-append-le, take-append-add, drop-append-add, set-split, getD-take, getD-drop, take-take, drop-drop, take-add, take-at, drop-at}
+use lib.Seq.{length-take-le, take-all, take-length, take-nil, take-suc, drop-cons, take-append-seam, take-append-le, drop-append-le, take-append-add, drop-append-add, set-split, getD-take, getD-drop, take-take, drop-drop, take-add, take-set-le, take-at, drop-at}
 use Rattle.areas.specs.Stretch.{stretch, put, cleared}
 
 drop-take : (c b : ℕ) (l : List ℕ) → drop c (take b l) ≡ take (b - c) (drop c l)
@@ -54,6 +54,25 @@ stretch-split b n m l = take-add n m (drop b l) ∙ rw (drop-drop n b l)
 pub stretch-stretch : (b n c m : ℕ) (l : List ℕ) → b + n ≤ m → stretch b n (stretch c m l) ≡ stretch (c + b) n l
 unfolding stretch
 stretch-stretch b n c m l h = rw (drop-take b m (drop c l), drop-drop b c l) (take-take n (m - b) (drop (c + b) l) (omega arith))
+
+pub take-stretch : (k b n : ℕ) (l : List ℕ) → k ≤ n → take k (stretch b n l) ≡ stretch b k l
+unfolding stretch
+take-stretch k b n l h = take-take k n (drop b l) h
+
+pub drop-stretch : (i b n : ℕ) (l : List ℕ) → drop i (stretch b n l) ≡ stretch (b + i) (n - i) l
+unfolding stretch
+drop-stretch i b n l = drop-take i n (drop b l) ∙ rw (drop-drop i b l)
+
+pub stretch-take : (b n c : ℕ) (l : List ℕ) → b + n ≤ c → stretch b n (take c l) ≡ stretch b n l
+unfolding stretch
+stretch-take b n c l h = rw (drop-take b c l) (take-take n (c - b) (drop b l) (omega arith))
+
+-- areas that agree before c
+pub stretch-agree : (b n c : ℕ) (l l′ : List ℕ) → take c l ≡ take c l′ → b + n ≤ c → stretch b n l ≡ stretch b n l′
+stretch-agree b n c l l′ e h = sym (stretch-take b n c l h) ∙ ap (λ (x : List ℕ). stretch b n x) e ∙ stretch-take b n c l′ h
+
+pub getD-agree : (i d c : ℕ) (l l′ : List ℕ) → take c l ≡ take c l′ → i < c → getD l i d ≡ getD l′ i d
+getD-agree i d c l l′ e h = sym (getD-take c l i d h) ∙ ap (λ (x : List ℕ). getD x i d) e ∙ getD-take c l′ i d h
 
 pub getD-stretch : (b n i d : ℕ) (l : List ℕ) → i < n → getD (stretch b n l) i d ≡ getD l (b + i) d
 unfolding stretch
@@ -229,12 +248,16 @@ put-all s l h = whole 0 s l ∙ rw (zero-add, drop-of-length-le l (le-of-eq (sym
 pub set-is-put : (i v : ℕ) (l : List ℕ) → i < length l → set l i v ≡ put i (v ∷ []) l
 set-is-put i v l h = set-split l i v h ∙ sym (whole i (v ∷ []) l ∙ rw (add-one i))
 
+-- behind what was written
+pub put-then : (b : ℕ) (s t l : List ℕ) → b + length s ≤ length l → put (b + length s) t (put b s l) ≡ put b (s ++ t) l
+put-then b s t l h = sym (put-append b s t l h ∙ put-comm b (b + length s) s t l (omega arith) h)
+
 -- one element more, behind what was written
 pub put-more : (b v : ℕ) (s l : List ℕ) → b + length s < length l → set (put b s l) (b + length s) v ≡ put b (s ++ (v ∷ [])) l
 put-more b v s l h =
     let e = length-put b s l (omega arith) in
     set-is-put (b + length s) v (put b s l) (omega arith)
-    ∙ sym (put-append b s (v ∷ []) l (omega arith) ∙ put-comm b (b + length s) s (v ∷ []) l (omega arith) (omega arith))
+    ∙ put-then b s (v ∷ []) l (omega arith)
 
 -- an element past what is written
 pub put-set : (b i v : ℕ) (s l : List ℕ) → b + length s ≤ i → i < length l → put b s (set l i v) ≡ set (put b s l) i v
@@ -243,6 +266,10 @@ put-set b i v s l h g =
     ap (λ (x : List ℕ). put b s x) (set-is-put i v l g)
     ∙ put-comm b i s (v ∷ []) l h (omega arith)
     ∙ sym (set-is-put i v (put b s l) (omega arith))
+
+-- a stretch that ends before an element
+pub stretch-set-before : (c k i v : ℕ) (l : List ℕ) → c + k ≤ i → stretch c k (set l i v) ≡ stretch c k l
+stretch-set-before c k i v l h = stretch-agree c k i (set l i v) l (take-set-le i l i v (omega arith)) h
 
 -- ---- an element
 

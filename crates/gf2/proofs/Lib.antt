@@ -9,6 +9,7 @@ pub mod Selecting
 pub mod Counting
 pub mod Values
 pub mod Spans
+pub mod OurCells
 pub mod Sums
 pub mod Results
 pub mod Elimination

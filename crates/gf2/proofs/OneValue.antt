@@ -1,15 +1,14 @@
 -- One variable's value: written into the vector, and from the values of the others.
-use mathlib.Core.Path.{_≡_, refl, sym, ap, ap₂, _∙_}
+use mathlib.Core.Path.{_≡_, refl, sym, ap, _∙_}
 use mathlib.Core.Logic.{_≢_}
 use mathlib.Core.List.{List, [], _∷_}
-use mathlib.Core.Bool.{Bool, true, false, _||_, true≢false, false≢true}
+use mathlib.Core.Bool.{true, false, false≢true}
 use Prim.Native.Nat.{ℕ, zero, suc, _<_, _^_}
 use native.Mathlib.Omega.{arith}
 use native.Mathlib.Decide.{decLt}
 use lib.ListN.{length, getD, set, replicate}
 use lib.Seq.{getD-set-other, getD-set-same, set-out}
 use lib.Bits.{bitXor}
-use lib.Dec.{eqb}
 use Rattle.gf2.specs.Equation.{Equation, Each, evalVars, lists, Meets, MeetsAll}
 use Rattle.gf2.specs.NumberLists.{Distinct}
 use Rattle.gf2.specs.Span.{InSpan}

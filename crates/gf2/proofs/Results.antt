@@ -1,6 +1,5 @@
 -- The two cases of a `Result` are apart, and `ok` keeps what it holds.
-use mathlib.Core.Path.{_≡_, refl, sym, ap, _∙_, subst}
-use mathlib.Core.List.{List, [], _∷_}
+use mathlib.Core.Path.{_≡_, refl, sym, ap, subst}
 use Rattle.gf2.specs.Result.{Result, unsolvable, ok}
 
 Is-ok : {A : Type 0} → Result A → Type 0

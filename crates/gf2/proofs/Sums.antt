@@ -1,14 +1,14 @@
 -- What holds of two equations and so of their sum.
 use mathlib.Core.Path.{_≡_, sym, ap, ap₂, _∙_}
 use mathlib.Core.Logic.{_≢_}
-use mathlib.Core.List.{List, [], _∷_}
+use mathlib.Core.List.{List, []}
 use Prim.Native.Nat.{ℕ}
 use lib.Bits.{bitXor}
-use Rattle.gf2.specs.Equation.{Equation, Each, Sorted, evalVars, Meets, sum}
+use Rattle.gf2.specs.Equation.{Equation, Each, evalVars, Meets, sum}
 use Rattle.gf2.specs.Span.{Cancels, InSpan}
 use Rattle.gf2.proofs.XorLaws.{xor-cancel-right}
 use Rattle.gf2.proofs.SymDiff.{evalVars-symDiff}
-use Rattle.gf2.proofs.Spans.{span-each, span-sum, empty-row-cancels}
+use Rattle.gf2.proofs.Spans.{span-sum, empty-row-cancels}
 use mathlib.Core.Bool.{Bool}
 
 pub meets-sum : (x : List ℕ) (r q : Equation) → Meets x r → Meets x q → Meets x (sum r q)

@@ -141,7 +141,7 @@ module _ (n : ℕ) (sys : List Equation) (lent : Lent n sys) (s : State) (i : In
   length-x0 = length-backSub rows (replicate n 0) ∙ length-replicate n 0
 
   -- a pivot is idle, so the dense part does not touch it
-  pivot-zero : (v : ℕ) → getD (s .idle) v false ≡ true → getD x0 v 0 ≡ 0
+  pub pivot-zero : (v : ℕ) → getD (s .idle) v false ≡ true → getD x0 v 0 ≡ 0
   pivot-zero v h =
       backSub-other rows zeros v (each-from-mem (λ r. lists v (r .vars) ≡ false) rows (λ r k.
       not-true→false (lists v (r .vars)) (λ l. true≢false (sym h ∙ each-listed active (r .vars) (each-mem (λ q. Each active (q .vars)) k rows-active) v l .0))))

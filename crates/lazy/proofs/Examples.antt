@@ -1,10 +1,9 @@
 -- P1 to P5 by the lazy rules, by computing; P5 is not the sparse answer.
 use mathlib.Core.Path.{_≡_, refl}
-use mathlib.Core.List.{List, [], _∷_}
-use Prim.Native.Nat.{ℕ}
-use Rattle.gf2.specs.Equation.{Equation, eqn, evalVars, lists, symDiff}
+use mathlib.Core.List.{[], _∷_}
+use Rattle.gf2.specs.Equation.{eqn, evalVars, lists, symDiff}
 use Rattle.gf2.specs.NumberLists.{upFrom, downFrom, keep, firstOf}
-use Rattle.gf2.specs.Result.{Result, unsolvable, ok}
+use Rattle.gf2.specs.Result.{unsolvable, ok}
 use Rattle.sparse.specs.Eliminate.{summed, meeting, meetRow, outerRow, contradicted, pin, backSub}
 use Rattle.lazy.specs.Lazy.{listing, others, heaviest, start, lowered, pushed, addedInto, skip, activate, passOver, copy, solveFor, popDense, popEquation, popVariable, pop, denseRow, fill, lastUnit, unit, after, wholeRun, lazyElimination}
 

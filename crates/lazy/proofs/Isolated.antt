@@ -2,7 +2,7 @@
 use mathlib.Core.Path.{_≡_, refl, sym, ap, _∙_, subst}
 use mathlib.Core.Logic.{_⊎_, inl, inr}
 use mathlib.Core.List.{List, [], _∷_, map, List·Memᴰ, List·Memᴰ·head, List·Memᴰ·tail, List·Memᴰ·cases-cons}
-use mathlib.Core.Bool.{Bool, true, false, cond, _&&_, _||_, true≢false, false≢true}
+use mathlib.Core.Bool.{Bool, true, false, cond, _&&_, true≢false}
 use Prim.Native.Nat.{ℕ, zero, suc, _+_, _≤_, _<_}
 use native.Mathlib.Omega.{arith}
 use native.Mathlib.Decide.{decLt, ℕ-discrete}
@@ -12,17 +12,16 @@ use Rattle.gf2.specs.ByNumber.{rowOf, listsAt, MeetsRows}
 use Rattle.gf2.specs.Equation.{Equation, lists, Meets}
 use Rattle.gf2.specs.NumberLists.{upFrom, keep, one, count}
 use Rattle.gf2.specs.Ours.{anyOurs, ourPart}
-use Rattle.gf2.specs.Result.{ok}
 use Rattle.lazy.specs.Description.{Described, Chosen, Fixed}
 use Rattle.lazy.specs.Invariant.{Lent, Stopping, TakenBefore}
-use Rattle.lazy.specs.Lazy.{listing, wholeRun, ended}
+use Rattle.lazy.specs.Lazy.{listing}
 use Rattle.gf2.proofs.Counting.{count-some, count-one, count-same}
-use Rattle.gf2.proofs.Members.{Same, eq, ne, same?, or-r, head-listed, and-true}
+use Rattle.gf2.proofs.Members.{head-listed, and-true}
+use Rattle.gf2.proofs.OurCells.{any-listed}
 use Rattle.gf2.proofs.OneValue.{evalVars-same}
 use Rattle.gf2.proofs.Selecting.{getD-map-up, length-up, length-zero, length-keep}
 use Rattle.gf2.proofs.Tests.{not-true→false}
 use Rattle.lazy.proofs.Pivots.{lists-listing, listsAt-below}
-use Rattle.lazy.proofs.Run.{whole-ok}
 use Rattle.lazy.proofs.Shares.{ApartAt, Shares}
 
 -- ---- weights and lists
@@ -266,15 +265,6 @@ listing-is (q ∷ qs) v = go (lists v (q .vars)) (shift-keep (listsAt (q ∷ qs)
     go true ih = let z : suc (length (keep (listsAt (q ∷ qs) v) (upFrom 1 (length qs)))) ≡ 1 + listing-count v qs = omega arith in z
     go false ih = let z : length (keep (listsAt (q ∷ qs) v) (upFrom 1 (length qs))) ≡ 0 + listing-count v qs = omega arith in z
 
-any-listed : (P : ℕ → Bool) (v : ℕ) (vs : List ℕ) → lists v vs ≡ true → P v ≡ true → anyOurs P vs ≡ true
-unfolding anyOurs lists
-any-listed P v [] h p = absurd (false≢true h)
-any-listed P v (u ∷ us) h p = go (same? v u) (any-listed P v us)
-  where
-    go : Same v u → (lists v us ≡ true → P v ≡ true → anyOurs P us ≡ true) → (P u || anyOurs P us) ≡ true
-    go (eq r t) ih = rw (sym (ap P r) ∙ p)
-    go (ne r t) ih = or-r (P u) (ih (rw t at h) p)
-
 count-ours : (P : ℕ → Bool) (v : ℕ) → P v ≡ true → (sys : List Equation) → listing-count v (ourPart P sys) ≡ listing-count v sys
 unfolding listing-count ourPart one
 count-ours P v pv [] = refl
@@ -329,16 +319,8 @@ shares P a b h =
       weights = λ v pv. listing-is a v ∙ sym (count-ours P v pv a) ∙ ap (listing-count v) h ∙ count-ours P v pv b ∙ sym (listing-is b v);
     }
 
--- Two systems, lent by anybody, with the same equations on our cells and each equation on our cells alone or on none of them.
--- Where both are solved, our cells have the same values in both solutions.
-pub whole-isolated : (P : ℕ → Bool) (n m : ℕ) (a b : List Equation) → Lent n a → Lent m b → ApartAt P a → ApartAt P b → ourPart P a ≡ ourPart P b
-    → (x y : List ℕ) → wholeRun n a ≡ ended (ok x) → wholeRun m b ≡ ended (ok y)
-    → (v : ℕ) → P v ≡ true → getD x v 0 ≡ getD y v 0
-whole-isolated P n m a b la lb pa pb h x y ex ey =
-    ours-same P a b (shares P a b h) pa pb n m la lb x y (whole-ok n a la x ex) (whole-ok m b lb y ey)
-
 -- the description determines the answer
-pub answer-unique : (n : ℕ) (sys : List Equation) → Lent n sys → (x y : List ℕ) → Described n sys x → Described n sys y → x ≡ y
-answer-unique n sys lent x y a b =
+pub described-unique : (n : ℕ) (sys : List Equation) → Lent n sys → (x y : List ℕ) → Described n sys x → Described n sys y → x ≡ y
+described-unique n sys lent x y a b =
     ext-getD 0 x y (a .size ∙ sym (b .size)) (λ v h.
     ours-same (λ u. true) sys sys (shares (λ u. true) sys sys refl) (λ u v e p q r. refl) (λ u v e p q r. refl) n n lent lent x y a b v refl)

@@ -141,7 +141,7 @@ module _ (n : ℕ) (sys : List Equation) (lent : Lent n sys) (rows : List Equati
   abbrev pub pivot : ℕ
   pivot = firstOf (λ v. getD idle v false) (rowOf rows e .vars)
 
-  pivot-there : (getD idle pivot false ≡ true) × (listsAt rows pivot e ≡ true)
+  pub pivot-there : (getD idle pivot false ≡ true) × (listsAt rows pivot e ≡ true)
   pivot-there =
       let w = count-some (free idle weight) (rowOf sys e .vars) (let a = one-free in omega arith) in
       firstOf-true (λ v. getD idle v false) (w .0) (rowOf rows e .vars) (R .same (w .0) e (w .1) ∙ w .2) (free-idle idle weight (w .0) (w .1))

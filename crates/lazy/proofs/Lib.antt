@@ -14,7 +14,9 @@ pub mod Room
 pub mod Tables
 pub mod Ranks
 pub mod Turns
+pub mod NeverEmpty
 pub mod Shares
 pub mod Isolated
+pub mod Theorems
 pub mod Examples
 pub mod RandomExamples

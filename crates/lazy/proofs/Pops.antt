@@ -222,7 +222,7 @@ module _ (n : ℕ) (sys : List Equation) (lent : Lent n sys) (s : State) (i : In
       }
 
   -- with the equation list empty and equations remaining, a variable is still to be taken
-  some-variable : s .equations ≡ [] → 0 < s .remaining → (v : ℕ) × (lists v (s .variables) ≡ true) × (getD (s .weight) v 0 ≢ 0)
+  pub some-variable : s .equations ≡ [] → 0 < s .remaining → (v : ℕ) × (lists v (s .variables) ≡ true) × (getD (s .weight) v 0 ≢ 0)
   unfolding one
   some-variable p h =
       let t = rw p at (i .in-stack .total) in

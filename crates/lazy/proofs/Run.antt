@@ -58,7 +58,7 @@ module _ (n : ℕ) (sys : List Equation) (lent : Lent n sys) where
       let p = i .in-same .spans (c .at) in
       (p .mask, empty-row-cancels sys (rowOf (s .rows) (c .at)) p (c .empty) (c .nonzero))
 
-  inv-ready : (s : State) → Inv n sys s → s .remaining ≡ 0 → Ready n sys s
+  pub inv-ready : (s : State) → Inv n sys s → s .remaining ≡ 0 → Ready n sys s
   inv-ready s i z =
       record {
         base = s;
@@ -179,17 +179,3 @@ module _ (n : ℕ) (sys : List Equation) (lent : Lent n sys) where
     where
       go : left (start n sys) < length sys + length sys + n + 1
       go = let a = start-variables n sys in let b = start-remaining n sys in let c = start-dense n sys in omega arith
-
--- for a caller: the answer is right
-pub whole-ok : (n : ℕ) (sys : List Equation) → Lent n sys → (x : List ℕ) → wholeRun n sys ≡ ended (ok x) → Described n sys x
-whole-ok n sys lent x e = go (wholeRun n sys) (whole-right n sys lent) e
-  where
-    go : (b : Build) → Ended n sys lent b → b ≡ ended (ok x) → Described n sys x
-    go b (ended-so {r = r} q) p = subst (Right n sys) (let z : r ≡ ok x = cc in z) q
-
--- a refusal is right: some of the equations contradict one another ..
-pub whole-unsolvable : (n : ℕ) (sys : List Equation) → Lent n sys → wholeRun n sys ≡ ended unsolvable → (mask : List Bool) × Cancels mask sys
-whole-unsolvable n sys lent e = go (wholeRun n sys) (whole-right n sys lent) e
-  where
-    go : (b : Build) → Ended n sys lent b → b ≡ ended unsolvable → (mask : List Bool) × Cancels mask sys
-    go b (ended-so {r = r} q) p = subst (Right n sys) (let z : r ≡ unsolvable = cc in z) q

@@ -1,8 +1,8 @@
 -- What holds between two pops of the lazy rules.
 use mathlib.Core.Path.{_≡_}
 use mathlib.Core.Logic.{_≢_, _⊎_}
-use mathlib.Core.List.{List, [], _∷_, _++_, map, List·Memᴰ}
-use mathlib.Core.Bool.{Bool, true, false, not, cond, _&&_, _||_}
+use mathlib.Core.List.{List, [], _∷_, map, List·Memᴰ}
+use mathlib.Core.Bool.{Bool, true, false, _&&_, _||_}
 use Prim.Native.Nat.{ℕ, zero, suc, _+_, _≤_, _<_}
 use lib.ListN.{length, getD}
 use lib.Dec.{eqb}
@@ -12,7 +12,7 @@ use Rattle.gf2.specs.NumberLists.{one, count, pos, Distinct}
 use Rattle.gf2.specs.Span.{InSpan}
 use Rattle.lazy.specs.Lazy.{State, Solved, listing}
 
--- the system that is lent
+-- the system that is lent, by the numbers of its equations
 pub record Lent (n : ℕ) (sys : List Equation) : Type 0 where
   pub rising : (e : ℕ) → Increasing (rowOf sys e .vars)
   pub inside : (v e : ℕ) → listsAt sys v e ≡ true → v < n
@@ -40,7 +40,7 @@ unfoldable pub waiting : List ℕ → ℕ
 waiting [] = 0
 waiting (p ∷ ps) = twoUp p + waiting ps
 
--- I1 and I2. Of the idle variables, a free one stands where it stood at the start, and any other one in the row that it solves and nowhere else.
+-- Of the idle variables, a free one stands where it stood at the start, and any other one in the row that it solves and nowhere else.
 pub record RowsInv (sys rows : List Equation) (idle : List Bool) (weight : List ℕ) (solved : List Solved) : Type 0 where
   pub size : length rows ≡ length sys
   pub rising : (e : ℕ) → Increasing (rowOf rows e .vars)
@@ -54,14 +54,14 @@ pub record SolvedInv (m n : ℕ) (idle : List Bool) (weight : List ℕ) (solved 
   pub distinct : Distinct (map (λ d. d .pivot) solved)
   pub single : (e v w : ℕ) → solves solved e v ≡ true → solves solved e w ≡ true → w ≡ v
 
--- I3. A priority counts the free variables, by the lists at the start; a solved equation has none, and priority 1.
+-- A priority counts the free variables, by the lists at the start; a solved equation has none, and priority 1.
 pub record PriorityInv (sys : List Equation) (priority : List ℕ) (idle : List Bool) (weight : List ℕ) (solved : List Solved) : Type 0 where
   pub size : length priority ≡ length sys
   pub counts : (e : ℕ) → e < length sys
       → getD priority e 0 ≡ count (free idle weight) (rowOf sys e .vars) + one (isSolved solved e)
   pub done : (e : ℕ) → isSolved solved e ≡ true → count (free idle weight) (rowOf sys e .vars) ≡ 0
 
--- I4. An equation was pushed exactly if its priority is 1 or less; what remains is on the equation list or waits to be pushed.
+-- An equation was pushed exactly if its priority is 1 or less; what remains is on the equation list or waits to be pushed.
 pub record StackInv (m : ℕ) (priority equations : List ℕ) (solved : List Solved) (remaining : ℕ) : Type 0 where
   pub distinct : Distinct equations
   pub below : (e : ℕ) → lists e equations ≡ true → e < m
@@ -70,7 +70,7 @@ pub record StackInv (m : ℕ) (priority equations : List ℕ) (solved : List Sol
   pub solved-low : (e : ℕ) → isSolved solved e ≡ true → getD priority e 0 ≤ 1
   pub total : remaining ≡ length equations + waiting priority
 
--- I4. Each free variable is still to be taken, once; what is still to be taken is idle.
+-- Each free variable is still to be taken, once; what is still to be taken is idle.
 pub record VariablesInv (n : ℕ) (idle : List Bool) (weight variables : List ℕ) : Type 0 where
   pub size : length idle ≡ n
   pub weights : length weight ≡ n

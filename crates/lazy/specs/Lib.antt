@@ -2,3 +2,4 @@ pub mod Lazy
 pub mod Invariant
 pub mod Description
 pub mod Rank
+pub mod Safe

@@ -1,5 +1,5 @@
 -- Where a counting sort by weight puts a variable.
-use mathlib.Core.List.{List, [], _∷_}
+use mathlib.Core.List.{List}
 use mathlib.Core.Bool.{Bool, _&&_, _||_}
 use Prim.Native.Nat.{ℕ}
 use lib.ListN.{length}

@@ -1,1 +1,3 @@
 pub mod Offsets
+pub mod Tables
+pub mod RunningSums

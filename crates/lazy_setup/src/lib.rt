@@ -1,4 +1,6 @@
 // The work areas of lazy elimination, and how they are set up.
+mod tally;
+
 ghost use mathlib.Core.Path.{_≡_};
 ghost use Prim.Native.Nat.{_≤_};
 ghost use Rattle.answers.specs.Sizes.{maxVariables, maxEquations, maxListed};

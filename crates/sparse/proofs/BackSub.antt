@@ -2,7 +2,7 @@
 use mathlib.Core.Path.{_≡_, refl, sym, ap, _∙_, subst}
 use mathlib.Core.Logic.{_≢_, _⊎_, inl, inr}
 use mathlib.Core.List.{List, [], _∷_, List·Memᴰ, List·Memᴰ·head, List·Memᴰ·tail, cons≢nil}
-use mathlib.Core.Bool.{Bool, true, false, true≢false, false≢true}
+use mathlib.Core.Bool.{true, false, true≢false, false≢true}
 use Prim.Native.Nat.{ℕ, zero, suc, _<_, _^_}
 use native.Mathlib.Omega.{arith}
 use lib.ListN.{length, getD, set, length-set}
@@ -13,7 +13,7 @@ use Rattle.gf2.specs.Equation.{Equation, Each, Above, Sorted, evalVars, lists, 
 use Rattle.gf2.proofs.Tests.{eqb-same}
 use Rattle.gf2.proofs.VarLists.{above-not-listed}
 use Rattle.gf2.proofs.Members.{Same, eq, ne, same?, or-false, head-listed, increasing-distinct}
-use Rattle.gf2.proofs.Sums.{Closed, Refuted}
+use Rattle.gf2.proofs.Sums.{Refuted}
 use Rattle.gf2.proofs.OneValue.{set-meets, meets-unlisted, Small, evalVars-small, set-small}
 use Rattle.sparse.specs.Eliminate.{contradicted, pin, backSub}
 use Rattle.sparse.proofs.OuterRow.{Ahead, Triangular}

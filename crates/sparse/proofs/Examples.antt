@@ -1,9 +1,8 @@
 -- P1 to P5 by the sparse rules, by computing.
 use mathlib.Core.Path.{_≡_, refl}
-use mathlib.Core.List.{List, [], _∷_}
-use Prim.Native.Nat.{ℕ}
-use Rattle.gf2.specs.Equation.{Equation, eqn, evalVars, symDiff}
-use Rattle.gf2.specs.Result.{Result, unsolvable, ok}
+use mathlib.Core.List.{[], _∷_}
+use Rattle.gf2.specs.Equation.{eqn, evalVars, symDiff}
+use Rattle.gf2.specs.Result.{unsolvable, ok}
 use Rattle.sparse.specs.Eliminate.{summed, meeting, meetRow, outerRow, outerRows, echelonForm, contradicted, pin, backSub, finish, gaussianElimination}
 
 pub P1 : gaussianElimination 3 [] ≡ ok (0 ∷ 0 ∷ 0 ∷ [])

@@ -1,11 +1,11 @@
 -- What sparse elimination answers: a solution, the canonical one, or a contradiction, and never one for the other.
-use mathlib.Core.Path.{_≡_, refl, sym, ap, _∙_, subst}
-use mathlib.Core.Logic.{_≢_, _⊎_, inl, inr, _↔_}
-use mathlib.Core.List.{List, [], _∷_, List·Memᴰ}
+use mathlib.Core.Path.{_≡_, refl, sym, _∙_, subst}
+use mathlib.Core.Logic.{_⊎_, inl, inr, _↔_}
+use mathlib.Core.List.{List}
 use mathlib.Core.Bool.{Bool, true, false}
-use Prim.Native.Nat.{ℕ, zero, suc, _<_, _^_}
+use Prim.Native.Nat.{ℕ, _<_, _^_}
 use lib.ListN.{length, getD, replicate, length-replicate}
-use Rattle.gf2.specs.Equation.{Equation, Each, Increasing, Sorted, Below, MeetsAll}
+use Rattle.gf2.specs.Equation.{Equation, Each, Sorted, Below, MeetsAll}
 use Rattle.gf2.specs.Span.{Cancels, InSpan}
 use Rattle.gf2.specs.Canonical.{Lead, HasLead, Canonical}
 use Rattle.gf2.specs.Ours.{Apart, ourPart}
