@@ -45,3 +45,7 @@ pub each-drop : {A : Type 0} (P : A → Type 0) (l : List A) (i : ℕ) → Each 
 each-drop P l zero h = h
 each-drop P [] (suc i) h = tt
 each-drop P (a ∷ l) (suc i) h = each-drop P l i (h .1)
+
+pub each-all : {A : Type 0} (Q : A → Type 0) (l : List A) → ((a : A) → Q a) → Each Q l
+each-all Q [] f = tt
+each-all Q (a ∷ l) f = (f a, each-all Q l f)

@@ -1,26 +1,25 @@
 -- Each system has a canonical solution or a contradiction: elimination, variable by variable from the lowest. No program
 -- runs it. It shows that the two answers of a solver leave nothing out, and gives each definition its plain reading.
-use mathlib.Core.Path.{_≡_, refl, sym, ap, ap₂, _∙_, subst}
-use mathlib.Core.Logic.{_≢_, _⊎_, inl, inr}
+use mathlib.Core.Path.{_≡_, refl, sym, ap, _∙_, subst}
+use mathlib.Core.Logic.{_⊎_, inl, inr}
 use mathlib.Core.List.{List, [], _∷_}
-use mathlib.Core.Bool.{Bool, true, false}
+use mathlib.Core.Bool.{Bool}
 use Prim.Native.Nat.{ℕ, zero, suc, _+_, _<_, _≤_, zero-le}
-use native.Mathlib.Nat.{le-refl}
-use native.Mathlib.Decide.{decLt, ℕ-discrete}
+use native.Mathlib.Decide.{ℕ-discrete}
 use native.Mathlib.Omega.{arith}
 use lib.ListN.{getD, length, set, replicate, length-set, length-replicate, getD-replicate}
-use lib.Seq.{getD-set-same, getD-set-other}
+use lib.Seq.{getD-set-other}
 use lib.Bits.{bitXor}
-use Rattle.gf2.specs.Equation.{Equation, Each, Above, Increasing, Sorted, Below, evalVars, Meets, MeetsAll, lists, symDiff, sum}
+use Rattle.gf2.specs.Equation.{Equation, Each, Above, Increasing, Sorted, Below, evalVars, Meets, MeetsAll, symDiff}
 use Rattle.gf2.specs.Span.{constOf, Cancels, InSpan}
 use Rattle.gf2.specs.Canonical.{HasLead, Canonical, Before}
-use Rattle.gf2.proofs.XorLaws.{xor-laws, xor-cancel-right}
 use Rattle.gf2.proofs.Tests.{Tri, less, same, more, tri}
-use Rattle.gf2.proofs.SymDiff.{evalVars-symDiff, each-symDiff, symDiff-same}
+use Rattle.gf2.proofs.SymDiff.{each-symDiff, symDiff-same}
 use Rattle.gf2.proofs.Each.{each-map}
 use Rattle.gf2.proofs.Spans.{span-head, span-tail, span-sum, span-trans, span-each, cancels-span, empty-row-cancels, solved-not-cancels}
 use Rattle.gf2.proofs.Values.{meets-all-set, meets-set-lead}
-use Rattle.gf2.proofs.Canon.{canonical-smallest}
+use Rattle.gf2.proofs.Sums.{meets-part}
+use Rattle.gf2.proofs.Smallest.{canonical-smallest}
 
 -- the variables are from k on and below n
 abbrev pub Within : ℕ → ℕ → List ℕ → Type 0
@@ -82,10 +81,6 @@ stay k n e es i w (pivot vs d rs p wv q f) =
     pivot vs d (e ∷ rs) (span-tail e es (row (k ∷ vs) d) p) wv (rest-cons k n (e ∷ es) rs e (span-head e es i) w (rest-tail k n e es rs q))
     (λ x h g. (h .0, f x (h .1) g))
 
--- of two rows that a vector meets, one is the sum: it meets the other
-unsum : (a b x : List ℕ) (p q : ℕ) → evalVars (symDiff a b) x ≡ bitXor p q → evalVars b x ≡ q → evalVars a x ≡ p
-unsum a b x p q h g = xor-cancel-right q (evalVars a x) p (ap (bitXor (evalVars a x)) (sym g) ∙ sym (evalVars-symDiff a b x) ∙ h)
-
 -- an equation that has it is the pivot, or the pivot is added to it
 use′ : (k n d : ℕ) (us : List ℕ) (es : List Equation) → Increasing (k ∷ us) → Within k n us → Reduced k n es → Reduced k n (row (k ∷ us) d ∷ es)
 unfolding row
@@ -96,7 +91,7 @@ use′ k n d us es i w (pivot vs b rs p wv q f) =
     pivot vs b (row (symDiff us vs) (bitXor d b) ∷ rs) tail wv
     (rest-cons k n (row (k ∷ us) d ∷ es) rs (row (symDiff us vs) (bitXor d b)) added
     (each-symDiff (λ u. (suc k ≤ u) × (u < n)) us vs (within-suc k n us (i .0) w) wv) (rest-tail k n (row (k ∷ us) d) es rs q))
-    (λ x h g. (unsum (k ∷ us) (k ∷ vs) x d b (ap (λ l. evalVars l x) heads ∙ h .0) g, f x (h .1) g))
+    (λ x h g. (meets-part x (row (k ∷ us) d) (row (k ∷ vs) b) (ap (λ l. evalVars l x) heads ∙ h .0) g, f x (h .1) g))
   where
     tail : InSpan (row (k ∷ us) d ∷ es) (row (k ∷ vs) b)
     tail = span-tail (row (k ∷ us) d) es (row (k ∷ vs) b) p

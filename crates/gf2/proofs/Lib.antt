@@ -13,6 +13,10 @@ pub mod OurCells
 pub mod Sums
 pub mod Results
 pub mod Elimination
+pub mod Leads
+pub mod Isolation
+pub mod Smallest
+pub mod Width
 pub mod Canon
 pub mod OneValue
 pub mod Existence

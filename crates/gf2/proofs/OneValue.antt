@@ -14,7 +14,8 @@ use Rattle.gf2.specs.NumberLists.{Distinct}
 use Rattle.gf2.specs.Span.{InSpan}
 use Rattle.gf2.proofs.XorLaws.{xor-assoc, xor-left-comm, xor-laws, xor-cancel-left, xor-cancel-right}
 use Rattle.gf2.proofs.Members.{Same, eq, ne, same?, listed-differ, head-listed, tail-listed, listed-each}
-use Rattle.gf2.proofs.Canon.{evalVars-agree, evalVars-lt, constOf-lt}
+use Rattle.gf2.proofs.Leads.{evalVars-agree}
+use Rattle.gf2.proofs.Width.{evalVars-lt, constOf-lt}
 
 -- the value depends on the listed variables only
 pub evalVars-same : (vs x y : List ℕ) → ((v : ℕ) → lists v vs ≡ true → getD x v 0 ≡ getD y v 0) → evalVars vs x ≡ evalVars vs y

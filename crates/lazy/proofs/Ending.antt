@@ -6,7 +6,7 @@ use mathlib.Core.Bool.{Bool, true, false, not, _&&_, _||_, true≢false, false�
 use Prim.Native.Nat.{ℕ, zero, suc, _+_, _≤_, _<_, _^_}
 use native.Mathlib.Omega.{arith}
 use native.Mathlib.Decide.{decLt, ℕ-discrete}
-use lib.ListN.{length, getD, replicate, length-replicate, getD-replicate, List·getD-eq-default}
+use lib.ListN.{length, getD, replicate, length-replicate, List·getD-eq-default}
 use lib.Dec.{eqb, ltb, ltb→lt, lt→ltb}
 use lib.Pow.{pow-pos}
 use Rattle.gf2.specs.ByNumber.{rowOf, listsAt, blank, MeetsRows}
@@ -20,9 +20,9 @@ use Rattle.lazy.specs.Lazy.{State, Solved, fill}
 use Rattle.gf2.proofs.Counting.{count-one}
 use Rattle.gf2.proofs.Each.{each-from, each-mem, each-from-mem}
 use Rattle.gf2.proofs.Members.{or-r, or-true, and-true, head-listed, on-cons, increasing-distinct, listed-each, each-listed}
-use Rattle.gf2.proofs.OneValue.{span-small, evalVars-same, evalVars-fix}
-use Rattle.gf2.proofs.Spans.{span-sum, empty-row-cancels}
-use Rattle.gf2.proofs.Sums.{Refuted}
+use Rattle.gf2.proofs.OneValue.{zeros-at, span-small, evalVars-same, evalVars-fix}
+use Rattle.gf2.proofs.Spans.{span-sum}
+use Rattle.gf2.proofs.Sums.{refuted-cancels, Refuted}
 use Rattle.gf2.proofs.Tests.{not-true→false, eqb-same, T→true, true→T}
 use Rattle.gf2.proofs.VarLists.{listed-above}
 use Rattle.sparse.proofs.BackSub.{not-contradicted, length-backSub, backSub-other, backSub-meets, Leader, backSub-lead, backSub-small}
@@ -86,9 +86,7 @@ module _ (n : ℕ) (sys : List Equation) (lent : Lent n sys) (s : State) (i : In
 
   -- a sum of the rows that is 0 = c is a sum of equations of the system
   pub clash-ends : Refuted rows → (mask : List Bool) × Cancels mask sys
-  clash-ends h =
-      let r = h (InSpan sys) (span-sum sys) (like .closed (InSpan sys) (span-sum sys) dense-span) in
-      (r .1 .mask, empty-row-cancels sys (r .0) (r .1) (r .2) (r .3))
+  clash-ends = refuted-cancels sys rows (like .closed (InSpan sys) (span-sum sys) dense-span)
 
   pub dense-sorted : Sorted (s .dense)
   dense-sorted = each-from-mem (λ r. Increasing (r .vars)) (s .dense) (λ r k. let c = i .in-dense .copies r k in rw (c .is-row) (i .in-rows .rising (c .at)))
@@ -130,13 +128,6 @@ module _ (n : ℕ) (sys : List Equation) (lent : Lent n sys) (s : State) (i : In
   abbrev pub values : List ℕ
   values = fill (s .rows) (s .solved) x0
 
-  zeros-at : (v : ℕ) → getD zeros v 0 ≡ 0
-  zeros-at v = go (decLt v n)
-    where
-      go : Dec (v < n) → getD {A = ℕ} (replicate n 0) v 0 ≡ 0
-      go (yes h) = getD-replicate n v 0 0 h
-      go (no h) = List·getD-eq-default (replicate n 0) 0 {n = v} (rw (length-replicate {A = ℕ} n 0) (omega arith))
-
   length-x0 : length x0 ≡ n
   length-x0 = length-backSub rows (replicate n 0) ∙ length-replicate n 0
 
@@ -145,13 +136,13 @@ module _ (n : ℕ) (sys : List Equation) (lent : Lent n sys) (s : State) (i : In
   pivot-zero v h =
       backSub-other rows zeros v (each-from-mem (λ r. lists v (r .vars) ≡ false) rows (λ r k.
       not-true→false (lists v (r .vars)) (λ l. true≢false (sym h ∙ each-listed active (r .vars) (each-mem (λ q. Each active (q .vars)) k rows-active) v l .0))))
-      ∙ zeros-at v
+      ∙ zeros-at n v
 
   module _ (tri : Triangular rows) (sound : contradicted rows ≡ false) where
     x0-meets : MeetsAll x0 (s .dense)
     x0-meets =
         like .back x0 (backSub-meets rows zeros tri (like .rising dense-sorted) (not-contradicted rows sound)
-        (like .support (λ v. v < length zeros) dense-below) zeros-at)
+        (like .support (λ v. v < length zeros) dense-below) (zeros-at n))
 
     -- each row as it stands is met
     values-meet : MeetsRows values (s .rows)
@@ -269,7 +260,7 @@ module _ (n : ℕ) (sys : List Equation) (lent : Lent n sys) (s : State) (i : In
         x-is = not-pivot v (λ e k. true≢false (sym (i .in-solved .gone e v k .0) ∙ a .1))
 
         go : (getD x0 v 0 ≡ getD zeros v 0) ⊎ Leader rows v → (getD values v 0 ≡ 0) ⊎ Fixed sys (λ u. (act u ≡ true) × (v < u)) v
-        go (inl e) = inl (x-is ∙ e ∙ zeros-at v)
+        go (inl e) = inl (x-is ∙ e ∙ zeros-at n v)
         go (inr l) = inr (λ y z my mz ag.
             let inc : Increasing (l .row .vars) = each-mem (λ r. Increasing (r .vars)) (l .member) (like .rising dense-sorted) in
             let ac : Each active (l .row .vars) = each-mem (λ r. Each active (r .vars)) (l .member) rows-active in
@@ -307,7 +298,7 @@ module _ (n : ℕ) (sys : List Equation) (lent : Lent n sys) (s : State) (i : In
         not-pivot v (λ e k. let g = i .in-solved .gone e v k in nowhere e (i .in-rows .own v e (g .0) (g .1) ∙ k))
         ∙ backSub-other rows zeros v (each-from-mem (λ r. lists v (r .vars) ≡ false) rows (λ r k.
         not-true→false (lists v (r .vars)) (λ l. each-listed elsewhere (r .vars) (each-mem (λ q. Each elsewhere (q .vars)) k rows-elsewhere) v l refl)))
-        ∙ zeros-at v
+        ∙ zeros-at n v
       where
         nowhere : (e : ℕ) → listsAt (s .rows) v e ≡ true → ⊥
         nowhere e l = let f = i .in-rows .inside v e l in true≢false (sym (f .1) ∙ h (f .0))
@@ -325,7 +316,7 @@ module _ (n : ℕ) (sys : List Equation) (lent : Lent n sys) (s : State) (i : In
     answer-small k h =
         fill-small k (s .rows) (λ e. span-small k sys (rowOf (s .rows) e) all (i .in-same .spans e)) (s .solved) x0
         (backSub-small k rows (each-from-mem (λ r. r .c < 2 ^ k) rows (λ r m.
-        span-small k sys r all (each-mem (InSpan sys) m (like .closed (InSpan sys) (span-sum sys) dense-span)))) zeros (λ v. rw (zeros-at v) (pow-pos k)))
+        span-small k sys r all (each-mem (InSpan sys) m (like .closed (InSpan sys) (span-sum sys) dense-span)))) zeros (λ v. rw (zeros-at n v) (pow-pos k)))
       where
         all : Each (λ q. q .c < 2 ^ k) sys
         all = each-from (λ q. q .c < 2 ^ k) sys blank (λ e b. h e)

@@ -3,7 +3,7 @@ use mathlib.Core.Path.{_≡_, refl, sym, ap, _∙_, subst}
 use mathlib.Core.Logic.{_≢_}
 use mathlib.Core.List.{List, [], _∷_, _++_, map}
 use mathlib.Core.Bool.{Bool, true, false, not, _||_, true≢false}
-use Prim.Native.Nat.{ℕ, zero, suc, _≤_, _<_}
+use Prim.Native.Nat.{ℕ, _≤_, _<_}
 use native.Mathlib.Omega.{arith}
 use native.Mathlib.Decide.{ℕ-discrete}
 use lib.ListN.{length, getD, replicate}
@@ -12,7 +12,7 @@ use Rattle.gf2.specs.Equation.{Equation, lists}
 use Rattle.gf2.specs.NumberLists.{Distinct}
 use Rattle.gf2.specs.ByNumber.{rowOf, listsAt}
 use Rattle.sparse.specs.Eliminate.{backSub}
-use Rattle.lazy.specs.Lazy.{State, Solved, listing, others, isIdle, fill, Build, more, ended, unit, after, start}
+use Rattle.lazy.specs.Lazy.{State, Solved, listing, others, isIdle, fill, more, after, start}
 use Rattle.lazy.specs.Invariant.{Lent, Inv, StackInv, free, isSolved}
 use Rattle.lazy.specs.Safe.{Safe, pivotOf}
 use Rattle.gf2.proofs.Tests.{eqb-true}
@@ -22,9 +22,8 @@ use Rattle.lazy.proofs.Pivots.{listsAt-below, lists-listing, lists-othe
 use Rattle.lazy.proofs.Keeps.{pivot-there, pivot-free, idle-alone}
 use Rattle.lazy.proofs.Filling.{fill-other}
 use Rattle.lazy.proofs.Pops.{some-variable}
-use Rattle.lazy.proofs.AtStart.{start-inv}
 use Rattle.lazy.proofs.Ending.{pivot-zero}
-use Rattle.lazy.proofs.Run.{Live, popping, clearing, Ready, Went, on, over, inv-ready, unit-went}
+use Rattle.lazy.proofs.Run.{Live, popping, clearing, Ready, inv-ready, reached}
 
 module _ (n : ℕ) (sys : List Equation) (lent : Lent n sys) where
   -- ---- while equations remain
@@ -134,23 +133,9 @@ module _ (n : ℕ) (sys : List Equation) (lent : Lent n sys) where
       none : 0 < s .remaining → ⊥
       none h = let z = r .none in omega arith
 
-  abbrev Going : Build → Type 1
-  Going (more s) = Live n sys s
-  Going (ended r) = Unit {1}
-
-  went-going : (s : State) {b : Build} → Went n sys s b → Going b
-  went-going s (on l d) = l
-  went-going s (over q) = tt
-
-  after-going : (k : ℕ) (b : Build) → Going b → Going (after k n sys b)
-  unfolding after
-  after-going zero b g = g
-  after-going (suc k) (more s) g = after-going k (unit n sys s) (went-going s (unit-went n sys lent s g))
-  after-going (suc k) (ended r) g = tt
-
   live-safe : (s : State) → Live n sys s → Safe n sys s
   live-safe s (popping i) = inv-safe s i
   live-safe s (clearing r) = ready-safe s r
 
   pub reached-safe : (k : ℕ) (s : State) → after k n sys (more (start n sys)) ≡ more s → Safe n sys s
-  reached-safe k s e = live-safe s (subst Going e (after-going k (more (start n sys)) (popping (start-inv n sys lent))))
+  reached-safe k s e = live-safe s (reached n sys lent k s e)

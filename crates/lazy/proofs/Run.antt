@@ -1,6 +1,6 @@
 -- The lazy rules end within 2m + n + 1 units, with values as described, or with a refusal where some equations cancel.
 use mathlib.Core.Path.{_≡_, refl, sym, ap, subst}
-use mathlib.Core.List.{List, [], _∷_}
+use mathlib.Core.List.{List}
 use mathlib.Core.Bool.{Bool, true, false, not}
 use Prim.Native.Nat.{ℕ, zero, suc, _+_, _-_, _≤_, _<_}
 use native.Mathlib.Omega.{arith}
@@ -17,7 +17,7 @@ use Rattle.lazy.specs.Lazy.{State, start, pop, denseRow, fill, lastUnit,
 use Rattle.gf2.proofs.Spans.{empty-row-cancels}
 use Rattle.gf2.proofs.Tests.{true→T}
 use Rattle.sparse.proofs.BackSub.{contradicted-clash}
-use Rattle.sparse.proofs.OuterRow.{Like, like-same, like-then, Echelon, RoundMet, round-clash, round-met, outerRow-met, echelon-triangular}
+use Rattle.sparse.proofs.OuterRow.{echelon-zero, Like, like-same, like-then, Echelon, RoundMet, round-clash, round-met, outerRow-met, echelon-triangular}
 use Rattle.lazy.proofs.AtStart.{start-inv, start-variables, start-remaining, start-dense}
 use Rattle.lazy.proofs.Ending.{clash-ends, dense-sorted, values-right}
 use Rattle.lazy.proofs.Pops.{Popped, Clash, After, pop-keeps}
@@ -70,10 +70,6 @@ module _ (n : ℕ) (sys : List Equation) (lent : Lent n sys) where
         like = like-same (s .dense);
         echelon = subst (λ k. Echelon k (s .dense)) (sym (i .in-units .not-yet)) (echelon-zero (s .dense));
       }
-    where
-      echelon-zero : (l : List Equation) → Echelon zero l
-      echelon-zero [] = tt
-      echelon-zero (r ∷ l) = tt
 
   -- a unit that pops
   pop-went : (s : State) → Inv n sys s → 0 < s .remaining → Went n sys s (goOn (pop sys s))
@@ -155,6 +151,24 @@ module _ (n : ℕ) (sys : List Equation) (lent : Lent n sys) where
       go zero p (clearing r) = ready-went s r
       go (suc k) p (popping i) = pop-went s i (omega arith)
       go (suc k) p (clearing r) = let z = r .none in absurd (omega arith)
+
+  abbrev Going : Build → Type 1
+  Going (more s) = Live n sys s
+  Going (ended r) = Unit {1}
+
+  went-going : (s : State) {b : Build} → Went n sys s b → Going b
+  went-going s (on l d) = l
+  went-going s (over q) = tt
+
+  after-going : (k : ℕ) (b : Build) → Going b → Going (after k n sys b)
+  unfolding after
+  after-going zero b g = g
+  after-going (suc k) (more s) g = after-going k (unit n sys s) (went-going s (unit-went s g))
+  after-going (suc k) (ended r) g = tt
+
+  -- a state that the machine reaches from the start is popping, or works on the dense part
+  pub reached : (k : ℕ) (s : State) → after k n sys (more (start n sys)) ≡ more s → Live n sys s
+  reached k s e = subst Going e (after-going k (more (start n sys)) (popping (start-inv n sys lent)))
 
   pub data Ended : Build → Type 0 where
     ended-so : {r : Result (List ℕ)} → Right n sys r → Ended (ended r)

@@ -100,10 +100,12 @@ pub record Copied (rows : List Equation) (priority : List ℕ) (solved : List So
   pub zero-priority : getD priority at 0 ≡ 0
   pub unsolved : isSolved solved at ≡ false
 
+-- each equation has its place, and the dense part holds copies only
 pub record DenseInv (sys rows dense : List Equation) (priority equations : List ℕ) (solved : List Solved) : Type 0 where
   pub places : (e : ℕ) → e < length sys → Place rows dense priority equations solved e
   pub copies : (r : Equation) → List·Memᴰ r dense → Copied rows priority solved r
 
+-- what is copied, solved or remaining is at most all; no outer row is done before the popping ends
 pub record UnitsInv (m : ℕ) (dense : List Equation) (solved : List Solved) (remaining denseDone : ℕ) : Type 0 where
   pub room : length dense + length solved + remaining ≤ m
   pub not-yet : denseDone ≡ 0
@@ -118,10 +120,12 @@ Stopping sys S = (e : ℕ) → count S (rowOf sys e .vars) ≢ 1
 abbrev pub TakenBefore : List Equation → ℕ → ℕ → Type 0
 TakenBefore sys u v = (length (listing sys v) < length (listing sys u)) ⊎ ((length (listing sys v) ≡ length (listing sys u)) × (v < u))
 
+-- each variable is taken before those that follow it
 abbrev pub InOrder : List Equation → List ℕ → Type 0
 InOrder sys [] = Unit {0}
 InOrder sys (v ∷ vs) = ((u : ℕ) → lists u vs ≡ true → TakenBefore sys v u) × InOrder sys vs
 
+-- v is active
 abbrev pub Active : ℕ → List Bool → ℕ → Type 0
 Active n idle v = (v < n) × (getD idle v false ≡ false)
 
@@ -136,13 +140,16 @@ pub record Reason (sys : List Equation) (n : ℕ) (idle : List Bool) (v : ℕ) :
   pub stopping : Stopping sys S
   pub spared : Spared sys n idle S v
 
+-- the active variables are those that were taken while free, each for a reason that lasts
 pub record ActiveInv (n : ℕ) (sys : List Equation) (idle : List Bool) (weight variables : List ℕ) : Type 0 where
   pub in-order : InOrder sys variables
+  -- what is active was taken before what is still to be taken
   pub earlier : (u v : ℕ) → Active n idle u → lists v variables ≡ true → TakenBefore sys u v
   -- a stopping set without active variables is free
   pub kept : (S : ℕ → Bool) → Stopping sys S → ((u : ℕ) → Active n idle u → S u ≡ false)
       → (v e : ℕ) → S v ≡ true → listsAt sys v e ≡ true → free idle weight v ≡ true
   pub reason : (v : ℕ) → Active n idle v → Reason sys n idle v
+  -- a variable that was taken and is idle was skipped: no stopping set that spares it has it
   pub skipped : (v e : ℕ) → getD idle v false ≡ true → lists v variables ≡ false → listsAt sys v e ≡ true
       → (S : ℕ → Bool) → Stopping sys S → Spared sys n idle S v → S v ≡ false
 
@@ -150,6 +157,7 @@ pub record ActiveInv (n : ℕ) (sys : List Equation) (idle : List Bool) (weight 
 abbrev pub WeightInv : List Equation → List ℕ → List Solved → Type 0
 WeightInv sys weight solved = (v e : ℕ) → listsAt sys v e ≡ true → getD weight v 0 ≡ 0 → (f : ℕ) × (solves solved f v ≡ true)
 
+-- all of it, of the state between two pops
 pub record Inv (n : ℕ) (sys : List Equation) (s : State) : Type 0 where
   pub in-rows : RowsInv sys (s .rows) (s .idle) (s .weight) (s .solved)
   pub in-solved : SolvedInv (length sys) n (s .idle) (s .weight) (s .solved)

@@ -130,7 +130,7 @@ pub data RoundMet (k : ℕ) (rows : List Equation) : Result (List Equation) → 
   round-clash : Refuted rows → RoundMet k rows unsolvable
   round-met : (rows′ : List Equation) → Like rows rows′ → (Echelon k rows → Echelon (suc k) rows′) → RoundMet k rows (ok rows′)
 
-echelon-zero : (l : List Equation) → Echelon zero l
+pub echelon-zero : (l : List Equation) → Echelon zero l
 echelon-zero [] = tt
 echelon-zero (r ∷ l) = tt
 

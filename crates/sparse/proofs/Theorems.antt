@@ -15,7 +15,8 @@ use Rattle.gf2.proofs.OneValue.{zeros-at}
 use Rattle.gf2.proofs.Spans.{span-each, span-sum, solved-not-cancels}
 use Rattle.gf2.proofs.Sums.{Refuted, refuted-cancels}
 use Rattle.gf2.proofs.Results.{unsolvable≢ok, ok-same, Case, refused, gave, which}
-use Rattle.gf2.proofs.Canon.{isolated, canonical-lt}
+use Rattle.gf2.proofs.Isolation.{isolated}
+use Rattle.gf2.proofs.Width.{canonical-lt}
 use Rattle.sparse.specs.Eliminate.{contradicted, backSub, echelonForm, finish, gaussianElimination}
 use Rattle.sparse.proofs.OuterRow.{Like, Triangular, FormMet, form-clash, form-met, echelonForm-met}
 use Rattle.sparse.proofs.BackSub.{Sound, Leader, contradicted-clash, not-contradicted, length-backSub, backSub-meets, backSub-lead}
