@@ -6,3 +6,4 @@ pub mod Listings
 pub mod Reading
 pub mod Padding
 pub mod Writing
+pub mod Listed

@@ -1,3 +1,4 @@
 pub mod Lowering
 pub mod Laid
 pub mod Writes
+pub mod Pops

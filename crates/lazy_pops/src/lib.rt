@@ -1,2 +1,3 @@
 // The pops of lazy elimination, on its work areas.
-mod lowering;
+pub mod lowering;
+pub mod variables;
