@@ -7,3 +7,5 @@ pub mod Reading
 pub mod Padding
 pub mod Writing
 pub mod Listed
+pub mod CanLower
+pub mod VariablePop
