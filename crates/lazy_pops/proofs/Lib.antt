@@ -9,3 +9,4 @@ pub mod Writing
 pub mod Listed
 pub mod CanLower
 pub mod VariablePop
+pub mod DenseWriting

@@ -2,13 +2,18 @@
 use mathlib.Core.Path.{_≡_}
 use mathlib.Core.List.{List, [], _∷_}
 use Prim.Native.Nat.{ℕ, _≤_, _<_}
-use lib.ListN.{length}
+use lib.ListN.{length, getD}
 use Rattle.gf2.specs.Equation.{Equation}
+use Rattle.gf2.specs.Result.{Result, unsolvable, ok}
+use Rattle.answers.specs.Sizes.{maxVariables}
 use Rattle.lazy.specs.Invariant.{Lent, Inv}
-use Rattle.lazy.specs.Lazy.{State}
+use Rattle.lazy.specs.Lazy.{State, passOver}
 use Rattle.lazy_setup.specs.declared.Layout.{Layout}
 use Rattle.lazy_setup.specs.declared.Stand.{Stand}
+use Rattle.lazy_setup.specs.Area.{wordsOf}
 use Rattle.lazy_setup.specs.Layout.{standOf}
+use Rattle.lazy_pops.specs.declared.Step.{Step}
+use Rattle.lazy_pops.specs.declared.Step.the-variants.{More, Solved, Unsolvable}
 use Rattle.lazy_pops.specs.Laid.{Laid}
 
 -- the numbers show the state, and the stand says how far its lists reach
@@ -36,3 +41,28 @@ pub record VariableReady (m : ℕ) (layout : Layout) (stand : Stand) (numbers : 
   pub v : ℕ
   pub vs : List ℕ
   pub at : VariableAt n m layout sys s v vs stand numbers
+
+-- what a pop leaves
+abbrev pub After : ℕ → ℕ → Layout → List Equation → Result State → Step → List ℕ → List ℕ → Type 0
+After n m layout sys (ok s) (More stand) numbers words = Shows n m layout sys s stand numbers × (words ≡ wordsOf sys s)
+After n m layout sys (ok s) Solved numbers words = ⊥
+After n m layout sys (ok s) Unsolvable numbers words = ⊥
+After n m layout sys unsolvable (More stand) numbers words = ⊥
+After n m layout sys unsolvable Solved numbers words = ⊥
+After n m layout sys unsolvable Unsolvable numbers words = Unit {0}
+
+-- equation e, of priority p, was popped in state s, and es are left
+pub record EquationAt (n m : ℕ) (layout : Layout) (sys : List Equation) (s : State) (e : ℕ) (es : List ℕ) (p : ℕ) (stand : Stand) (numbers words : List ℕ) : Type 0 where
+  pub shows : Shows n m layout sys (passOver es s) stand numbers
+  pub words-are : words ≡ wordsOf sys s
+  pub lent : Lent n sys
+  pub inv : Inv n sys s
+  pub next : s .equations ≡ e ∷ es
+  pub priority : getD (s .priority) e 0 ≡ p
+  pub small : n ≤ maxVariables
+
+pub record DenseReady (n m : ℕ) (layout : Layout) (stand : Stand) (e : ℕ) (numbers words : List ℕ) : Type 0 where
+  pub sys : List Equation
+  pub s : State
+  pub es : List ℕ
+  pub at : EquationAt n m layout sys s e es 0 stand numbers words

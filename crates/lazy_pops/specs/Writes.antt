@@ -7,7 +7,9 @@ use lib.ListN.{length, set}
 use Rattle.gf2.specs.Equation.{Equation}
 use Rattle.gf2.specs.ByNumber.{rowOf}
 use Rattle.lazy.specs.Lazy.{State, Solved, listing, lowered, pushed, addedInto}
+use Rattle.answers.specs.Sizes.{maxVariables}
 use Rattle.lazy_setup.specs.declared.Layout.{Layout}
+use Rattle.lazy_setup.specs.Area.{wordsOf}
 use Rattle.lazy_pops.specs.Laid.{Laid}
 use Rattle.lazy_pops.specs.Lowering.{but, Lowers}
 
@@ -104,3 +106,39 @@ addTo fs e s = record {
   remaining = s .remaining;
   denseDone = s .denseDone;
 }
+
+-- equation e is copied to the dense part
+unfoldable pub copied : ℕ → State → State
+copied e s = record {
+  rows = s .rows;
+  priority = s .priority;
+  weight = s .weight;
+  idle = s .idle;
+  variables = s .variables;
+  equations = s .equations;
+  solved = s .solved;
+  dense = s .dense ++ (rowOf (s .rows) e ∷ []);
+  remaining = s .remaining;
+  denseDone = s .denseDone;
+}
+
+-- equation e can be copied
+pub record CopyAt (n m : ℕ) (layout : Layout) (sys : List Equation) (s : State) (dense e len d : ℕ) (numbers words : List ℕ) : Type 0 where
+  pub laid : Laid n m layout sys s numbers
+  pub words-are : words ≡ wordsOf sys s
+  pub place : layout .dense ≡ dense
+  pub e-in : e < m
+  pub size : len ≡ length (rowOf (s .rows) e .vars)
+  pub d-is : d ≡ length (s .dense)
+  pub d-in : d < m
+  pub small : n ≤ maxVariables
+
+pub record CopyReady (n m dense e len d : ℕ) (numbers words : List ℕ) : Type 0 where
+  pub layout : Layout
+  pub sys : List Equation
+  pub s : State
+  pub at : CopyAt n m layout sys s dense e len d numbers words
+
+pub record CopyDone (n m : ℕ) (layout : Layout) (sys : List Equation) (s : State) (e : ℕ) (numbers′ words′ : List ℕ) : Type 0 where
+  pub laid : Laid n m layout sys (copied e s) numbers′
+  pub words-are : words′ ≡ wordsOf sys (copied e s)
