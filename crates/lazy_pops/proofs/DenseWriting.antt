@@ -80,7 +80,7 @@ module _ {n m : ℕ} {layout : Layout} {sys : List Equation} {s : State} {dense 
           rw (length-map (s .rows) (λ (r : Equation). r .vars)) (omega (arith, a .e-in, a .laid .many, a .laid .sized .rows)) in
       rw g at (a .laid .sized .narrow e k)
 
-  words-long : length words ≡ m + m
+  pub words-long : length words ≡ m + m
   unfolding wordsOf
   words-long =
       let z = a .laid .sized .dense in
@@ -135,7 +135,7 @@ module _ {n m : ℕ} {layout : Layout} {sys : List Equation} {s : State} {dense 
       ∙ ap (λ (t : List ℕ). padded (m * n) (laid n vs) ++ t)
         (set-right (replicate n 0) (padded m (lengths (s .dense))) n d len (length-replicate {A = ℕ} n 0) ∙ ap (λ (t : List ℕ). replicate n 0 ++ t) last)
 
-  word-is : getD words e 0 ≡ r .c
+  pub word-is : getD words e 0 ≡ r .c
   unfolding wordsOf
   word-is =
       let q = length-map (s .rows) (λ (r : Equation). r .c) in

@@ -10,3 +10,4 @@ pub mod Listed
 pub mod CanLower
 pub mod VariablePop
 pub mod DenseWriting
+pub mod DensePop
