@@ -11,3 +11,4 @@ pub mod CanLower
 pub mod VariablePop
 pub mod DenseWriting
 pub mod DensePop
+pub mod Seeking

@@ -2,3 +2,4 @@ pub mod Lowering
 pub mod Laid
 pub mod Writes
 pub mod Pops
+pub mod Idle
