@@ -67,6 +67,12 @@ pub stretch-take : (b n c : ℕ) (l : List ℕ) → b + n ≤ c → stretch b n 
 unfolding stretch
 stretch-take b n c l h = rw (drop-take b c l) (take-take n (c - b) (drop b l) (omega arith))
 
+-- areas that agree past a agree past any later place
+pub drop-agree : (a b : ℕ) (l l′ : List ℕ) → a ≤ b → drop a l ≡ drop a l′ → drop b l ≡ drop b l′
+drop-agree a b l l′ h e =
+    let c : b ≡ a + (b - a) = omega arith in
+    ap (λ (m : ℕ). drop m l) c ∙ sym (drop-drop (b - a) a l) ∙ ap (λ (x : List ℕ). drop (b - a) x) e ∙ drop-drop (b - a) a l′ ∙ ap (λ (m : ℕ). drop m l′) (sym c)
+
 -- areas that agree before c
 pub stretch-agree : (b n c : ℕ) (l l′ : List ℕ) → take c l ≡ take c l′ → b + n ≤ c → stretch b n l ≡ stretch b n l′
 stretch-agree b n c l l′ e h = sym (stretch-take b n c l h) ∙ ap (λ (x : List ℕ). stretch b n x) e ∙ stretch-take b n c l′ h
@@ -201,6 +207,22 @@ put-put-inside b c s t l h g f =
     let long : length (take (b - c) t ++ (s ++ drop (b - c + length s) t)) ≡ length t = length-put (b - c) s t (omega arith) in
     rw (front, back, long) (simp append-assoc)
 
+-- what stands there already
+pub put-stretch : (b n : ℕ) (l : List ℕ) → b + n ≤ length l → put b (stretch b n l) l ≡ l
+put-stretch b n l h =
+    whole b (stretch b n l) l
+    ∙ rw (length-stretch b n l h, ← (drop-drop n b l), shown, take-append-drop n (drop b l)) (take-append-drop b l)
+  where
+    shown : stretch b n l ≡ take n (drop b l)
+    shown = stretch-is b n l
+
+-- areas that differ in one stretch alone
+pub put-agree : (b n : ℕ) (l l′ : List ℕ) → take b l ≡ take b l′ → drop (b + n) l ≡ drop (b + n) l′ → b + n ≤ length l → l ≡ put b (stretch b n l) l′
+put-agree b n l l′ e e′ h =
+    sym (put-stretch b n l h)
+    ∙ whole b (stretch b n l) l
+    ∙ rw (e, length-stretch b n l h, e′) (sym (whole b (stretch b n l) l′ ∙ rw (length-stretch b n l h)))
+
 -- over what was written
 pub put-put-over : (b c : ℕ) (s t l : List ℕ) → b ≤ c → c + length t ≤ b + length s → c ≤ length l → put b s (put c t l) ≡ put b s l
 put-put-over b c s t l h g f =
@@ -229,15 +251,6 @@ put-append b s t l h =
     whole b (s ++ t) l
     ∙ sym (whole b s (put (b + length s) t l)
     ∙ rw (take-put-before b (b + length s) t l (omega arith) h, drop-put-at (b + length s) t l h, length-append s t, ← (add-assoc b (length s) (length t))) (simp append-assoc))
-
--- what stands there already
-pub put-stretch : (b n : ℕ) (l : List ℕ) → b + n ≤ length l → put b (stretch b n l) l ≡ l
-put-stretch b n l h =
-    whole b (stretch b n l) l
-    ∙ rw (length-stretch b n l h, ← (drop-drop n b l), shown, take-append-drop n (drop b l)) (take-append-drop b l)
-  where
-    shown : stretch b n l ≡ take n (drop b l)
-    shown = stretch-is b n l
 
 pub put-none : (b : ℕ) (l : List ℕ) → put b [] l ≡ l
 put-none b l = whole b [] l ∙ rw add-zero (take-append-drop b l)

@@ -7,7 +7,7 @@ use native.Mathlib.Numerals.{add-one}
 use native.Mathlib.Omega.{arith}
 use lib.ListN.{length, set, replicate, length-set, length-replicate}
 use Rattle.areas.specs.Stretch.{put, zeroed}
-use Rattle.areas.proofs.Stretch.{put-none, put-more, length-put}
+use Rattle.areas.proofs.Stretch.{put-none, put-more}
 
 snoc : (n v : ℕ) → replicate n v ++ (v ∷ []) ≡ replicate (n + 1) v
 snoc zero v = refl

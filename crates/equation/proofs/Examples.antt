@@ -1,0 +1,34 @@
+-- The sums of the workbench on the sum of two equations, and its refusals in their order.
+use mathlib.Core.Path.{_≡_, refl}
+use mathlib.Core.List.{List, [], _∷_}
+use Prim.Native.Nat.{ℕ}
+use Rattle.gf2.specs.Equation.{symDiff}
+use Rattle.areas.specs.Stretch.{put}
+use Rattle.areas.specs.Rows.{padded}
+use Rattle.answers.specs.declared.Answer.the-variants.{Solved, BadEntry, ShortArea}
+use Rattle.equation.specs.Increase.{rises, risesFrom}
+use Rattle.equation.specs.Sums.{sumCall, refusedSum}
+
+-- {1,3,5} plus {3,4} is {1,4,5}; zeros up to five, and what lies past them is unchanged
+pub plus : sumCall (1 ∷ 3 ∷ 5 ∷ []) (3 ∷ 4 ∷ []) 6 5 (9 ∷ 9 ∷ 9 ∷ 9 ∷ 9 ∷ 9 ∷ [])
+    ≡ record { result = record { answer = Solved; len = 3; constant = 3 }; out = 1 ∷ 4 ∷ 5 ∷ 0 ∷ 0 ∷ 9 ∷ [] }
+unfolding sumCall rises risesFrom symDiff put padded
+plus = refl
+
+-- a list plus itself is empty
+pub itself : sumCall (2 ∷ 7 ∷ []) (2 ∷ 7 ∷ []) 4 4 (9 ∷ 9 ∷ 9 ∷ 9 ∷ []) ≡ record { result = record { answer = Solved; len = 0; constant = 0 }; out = 0 ∷ 0 ∷ 0 ∷ 0 ∷ [] }
+unfolding sumCall rises risesFrom symDiff put padded
+itself = refl
+
+-- neither list increases and `out` is short: place 0
+pub both-fall : (out : List ℕ) → sumCall (3 ∷ 3 ∷ []) (5 ∷ 4 ∷ []) 1 2 out ≡ refusedSum (BadEntry 0) out
+unfolding sumCall rises risesFrom
+both-fall out = refl
+
+pub right-falls : (out : List ℕ) → sumCall (3 ∷ 4 ∷ []) (5 ∷ 5 ∷ []) 1 2 out ≡ refusedSum (BadEntry 1) out
+unfolding sumCall rises risesFrom
+right-falls out = refl
+
+pub short : sumCall (3 ∷ 4 ∷ []) (5 ∷ []) 1 2 (8 ∷ 8 ∷ []) ≡ refusedSum ShortArea (8 ∷ 8 ∷ [])
+unfolding sumCall rises risesFrom
+short = refl

@@ -1,0 +1,8 @@
+pub mod Rise
+pub mod Turn
+pub mod InRoom
+pub mod Gather
+pub mod Settle
+pub mod Cancelled
+pub mod Meaning
+pub mod Examples

@@ -1,0 +1,35 @@
+-- What the merge and the two copies write, put together by `gather-front`.
+use Rattle.equation.proofs.Gather.{part-from, gather-front}
+use borrow.Author.Needs.{needs}
+use Rattle.equation.proofs.merge.add_ptr.Statement.{statement}
+use Rattle.equation.proofs.merge.add_ptr.Tie as tie
+
+returns : tie.Need-returns
+returns c =
+    let k2 = c .before .before in
+    let k1 = k2 .before .before .before .before .before in
+    let m = k1 .before .before .before .before .before in
+    let s = m .before .before .before .before .before in
+    gather-front (m .merge .ensures .0) (m .merge .ensures .1) (part-from (s .args .left .now) (m .merge .result .left)) (k1 .copy-numbers .ensures) (part-from (s .args .right .now) (m .merge .result .right)) (k2 .copy-numbers2 .ensures) (s .pre)
+
+pub add-ptr-spec : {M : Type 1} → statement M
+add-ptr-spec =
+    tie.close
+    (tie.spec
+    (λ c κs. search needs)  -- merge-requires
+    (λ c. search needs)  -- mul-copy-numbers
+    (λ c. search needs)  -- sub-copy-numbers
+    (λ c. search needs)  -- part-copy-numbers-start
+    (λ c. search needs)  -- part-copy-numbers-end
+    (λ c κs. search needs)  -- copy-numbers-requires
+    (λ c. search needs)  -- sub-e
+    (λ c. search needs)  -- add-e
+    (λ c. search needs)  -- mul-copy-numbers-2
+    (λ c. search needs)  -- sub-copy-numbers-2
+    (λ c. search needs)  -- part-copy-numbers-start-2
+    (λ c. search needs)  -- part-copy-numbers-end-2
+    (λ c κs. search needs)  -- copy-numbers-requires-2
+    (λ c. search needs)  -- sub-result
+    (λ c. search needs)  -- add-result
+    (λ c. search needs)  -- same-length
+    returns)

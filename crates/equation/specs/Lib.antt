@@ -1,0 +1,5 @@
+pub mod Increase
+pub mod Merging
+pub mod Sums
+pub mod AddFits
+pub mod Common
