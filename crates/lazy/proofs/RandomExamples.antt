@@ -1,4 +1,4 @@
--- Random systems: what the Rust answers to each, and how many units it takes, by computing.
+-- Random systems, by computing: what the Rust answers to each; for the first of them, the units that the build takes.
 use mathlib.Core.Path.{_≡_, refl}
 use mathlib.Core.List.{List, [], _∷_, map}
 use Prim.Native.Nat.{ℕ}
@@ -113,3 +113,65 @@ random = refl
 random-units : map (λ (q : System). used (enough (q .n) (q .equations)) (q .n) (q .equations) (more (start (q .n) (q .equations)))) systems ≡ units
 unfolding systems units wholeRun after used unit pop popEquation popVariable popDense passOver copy solveFor skip activate lowered pushed addedInto denseRow lastUnit fill start heaviest listing others upFrom downFrom keep firstOf lists outerRow meetRow meeting summed contradicted backSub pin symDiff evalVars
 random-units = refl
+
+-- ---- three equations or more in the dense part
+
+denseSystems : List System
+denseSystems =
+    over 5 (eqn (0 ∷ 2 ∷ 3 ∷ 4 ∷ []) 6 ∷ eqn (0 ∷ 2 ∷ 4 ∷ []) 3 ∷ eqn (1 ∷ 2 ∷ 3 ∷ []) 6 ∷ eqn (0 ∷ 1 ∷ 4 ∷ []) 0 ∷ eqn (1 ∷ 2 ∷ 4 ∷ []) 1 ∷ eqn (0 ∷ 2 ∷ 3 ∷ []) 4 ∷ []) ∷
+    over 5 (eqn (0 ∷ 2 ∷ 4 ∷ []) 0 ∷ eqn (0 ∷ 1 ∷ []) 7 ∷ eqn (0 ∷ 1 ∷ 3 ∷ 4 ∷ []) 1 ∷ eqn (2 ∷ 3 ∷ 4 ∷ []) 1 ∷ eqn (1 ∷ 3 ∷ 4 ∷ []) 2 ∷ eqn (1 ∷ 3 ∷ 4 ∷ []) 1 ∷ eqn (0 ∷ 1 ∷ []) 7 ∷ []) ∷
+    over 4 (eqn (0 ∷ 1 ∷ []) 2 ∷ eqn (0 ∷ 1 ∷ 3 ∷ []) 1 ∷ eqn (0 ∷ 1 ∷ 2 ∷ []) 5 ∷ eqn (0 ∷ 1 ∷ 3 ∷ []) 2 ∷ eqn (0 ∷ 1 ∷ 2 ∷ 3 ∷ []) 5 ∷ eqn (0 ∷ 2 ∷ []) 4 ∷ eqn (1 ∷ 2 ∷ []) 6 ∷ []) ∷
+    over 4 (eqn (0 ∷ 2 ∷ 3 ∷ []) 1 ∷ eqn (0 ∷ 1 ∷ 2 ∷ []) 6 ∷ eqn (0 ∷ 2 ∷ 3 ∷ []) 1 ∷ eqn (0 ∷ 1 ∷ 2 ∷ []) 6 ∷ eqn (0 ∷ 1 ∷ 2 ∷ 3 ∷ []) 6 ∷ eqn (1 ∷ 2 ∷ 3 ∷ []) 5 ∷ []) ∷
+    over 6 (eqn (0 ∷ 1 ∷ 3 ∷ []) 4 ∷ eqn (1 ∷ 4 ∷ 5 ∷ []) 6 ∷ eqn (2 ∷ 3 ∷ 4 ∷ []) 1 ∷ eqn (0 ∷ 1 ∷ 3 ∷ 4 ∷ []) 1 ∷ eqn (1 ∷ 2 ∷ 5 ∷ []) 7 ∷ eqn (0 ∷ 2 ∷ 3 ∷ 4 ∷ []) 2 ∷ eqn (0 ∷ 2 ∷ 4 ∷ []) 2 ∷ []) ∷
+    over 4 (eqn (0 ∷ 2 ∷ 3 ∷ []) 5 ∷ eqn (0 ∷ 1 ∷ 2 ∷ []) 3 ∷ eqn (1 ∷ 2 ∷ 3 ∷ []) 4 ∷ eqn (0 ∷ 1 ∷ 2 ∷ 3 ∷ []) 3 ∷ eqn (0 ∷ 1 ∷ 2 ∷ 3 ∷ []) 3 ∷ eqn (0 ∷ 1 ∷ 3 ∷ []) 0 ∷ eqn (0 ∷ 1 ∷ 2 ∷ 3 ∷ []) 3 ∷ []) ∷
+    over 4 (eqn (1 ∷ 2 ∷ 3 ∷ []) 0 ∷ eqn (1 ∷ 2 ∷ 3 ∷ []) 0 ∷ eqn (0 ∷ 1 ∷ 2 ∷ []) 3 ∷ eqn (0 ∷ 1 ∷ 3 ∷ []) 2 ∷ eqn (0 ∷ 1 ∷ 2 ∷ 3 ∷ []) 4 ∷ eqn (0 ∷ 1 ∷ 2 ∷ 3 ∷ []) 4 ∷ []) ∷
+    over 5 (eqn (1 ∷ 4 ∷ []) 4 ∷ eqn (0 ∷ 1 ∷ 3 ∷ []) 2 ∷ eqn (0 ∷ 2 ∷ 3 ∷ 4 ∷ []) 4 ∷ eqn (0 ∷ 1 ∷ 3 ∷ []) 2 ∷ eqn (1 ∷ 2 ∷ 3 ∷ []) 6 ∷ eqn (1 ∷ 3 ∷ 4 ∷ []) 4 ∷ []) ∷
+    over 5 (eqn (1 ∷ 3 ∷ []) 1 ∷ eqn (1 ∷ 2 ∷ 4 ∷ []) 2 ∷ eqn (0 ∷ 1 ∷ 2 ∷ 4 ∷ []) 6 ∷ eqn (0 ∷ 1 ∷ 2 ∷ 3 ∷ []) 4 ∷ eqn (0 ∷ 1 ∷ 2 ∷ []) 6 ∷ eqn (0 ∷ 2 ∷ 3 ∷ 4 ∷ []) 7 ∷ eqn (0 ∷ 3 ∷ []) 6 ∷ []) ∷
+    over 5 (eqn (0 ∷ 1 ∷ 2 ∷ []) 5 ∷ eqn (1 ∷ 3 ∷ 4 ∷ []) 4 ∷ eqn (0 ∷ 1 ∷ 2 ∷ 4 ∷ []) 7 ∷ eqn (1 ∷ 2 ∷ 4 ∷ []) 2 ∷ eqn (0 ∷ 2 ∷ 3 ∷ 4 ∷ []) 1 ∷ eqn (0 ∷ 1 ∷ 2 ∷ 3 ∷ []) 0 ∷ []) ∷
+    over 5 (eqn (0 ∷ 3 ∷ []) 7 ∷ eqn (0 ∷ 1 ∷ 2 ∷ []) 1 ∷ eqn (2 ∷ 3 ∷ 4 ∷ []) 4 ∷ eqn (0 ∷ 2 ∷ 4 ∷ []) 3 ∷ eqn (0 ∷ 1 ∷ 3 ∷ []) 4 ∷ eqn (1 ∷ 2 ∷ 4 ∷ []) 7 ∷ []) ∷
+    over 4 (eqn (1 ∷ 2 ∷ 3 ∷ []) 7 ∷ eqn (0 ∷ 1 ∷ 2 ∷ 3 ∷ []) 5 ∷ eqn (0 ∷ 1 ∷ 2 ∷ 3 ∷ []) 5 ∷ eqn (0 ∷ 1 ∷ 2 ∷ 3 ∷ []) 5 ∷ eqn (1 ∷ 2 ∷ 3 ∷ []) 7 ∷ eqn (0 ∷ 3 ∷ []) 7 ∷ eqn (1 ∷ 2 ∷ 3 ∷ []) 7 ∷ []) ∷
+    over 5 (eqn (1 ∷ 2 ∷ []) 4 ∷ eqn (0 ∷ 1 ∷ 3 ∷ 4 ∷ []) 2 ∷ eqn (0 ∷ 2 ∷ 3 ∷ 4 ∷ []) 6 ∷ eqn (2 ∷ 3 ∷ 4 ∷ []) 7 ∷ eqn (0 ∷ 2 ∷ 3 ∷ []) 6 ∷ eqn (0 ∷ 3 ∷ 4 ∷ []) 6 ∷ []) ∷
+    over 4 (eqn (0 ∷ 1 ∷ 2 ∷ []) 0 ∷ eqn (1 ∷ 2 ∷ 3 ∷ []) 7 ∷ eqn (0 ∷ 1 ∷ 2 ∷ []) 0 ∷ eqn (0 ∷ 1 ∷ 2 ∷ []) 0 ∷ eqn (0 ∷ 1 ∷ 2 ∷ []) 0 ∷ eqn (0 ∷ 1 ∷ 3 ∷ []) 1 ∷ eqn (1 ∷ 2 ∷ 3 ∷ []) 7 ∷ []) ∷
+    over 4 (eqn (1 ∷ 2 ∷ []) 2 ∷ eqn (0 ∷ 1 ∷ 2 ∷ 3 ∷ []) 7 ∷ eqn (1 ∷ 2 ∷ []) 2 ∷ eqn (0 ∷ 1 ∷ 2 ∷ 3 ∷ []) 7 ∷ eqn (0 ∷ 1 ∷ 2 ∷ 3 ∷ []) 7 ∷ eqn (0 ∷ 2 ∷ 3 ∷ []) 4 ∷ eqn (1 ∷ 2 ∷ 3 ∷ []) 6 ∷ []) ∷
+    over 4 (eqn (0 ∷ 1 ∷ 3 ∷ []) 0 ∷ eqn (0 ∷ 1 ∷ 2 ∷ []) 3 ∷ eqn (0 ∷ 3 ∷ []) 6 ∷ eqn (0 ∷ 1 ∷ 2 ∷ []) 3 ∷ eqn (1 ∷ 2 ∷ 3 ∷ []) 5 ∷ eqn (0 ∷ 1 ∷ 2 ∷ 3 ∷ []) 2 ∷ eqn (0 ∷ 1 ∷ 2 ∷ 3 ∷ []) 2 ∷ []) ∷
+    over 4 (eqn (0 ∷ 1 ∷ 2 ∷ []) 1 ∷ eqn (0 ∷ 1 ∷ 2 ∷ 3 ∷ []) 3 ∷ eqn (0 ∷ 1 ∷ 2 ∷ 3 ∷ []) 3 ∷ eqn (0 ∷ 1 ∷ 2 ∷ []) 1 ∷ eqn (0 ∷ 2 ∷ 3 ∷ []) 2 ∷ eqn (0 ∷ 1 ∷ 3 ∷ []) 1 ∷ eqn (0 ∷ 3 ∷ []) 0 ∷ []) ∷
+    over 6 (eqn (0 ∷ 4 ∷ 5 ∷ []) 0 ∷ eqn (1 ∷ 2 ∷ 3 ∷ 5 ∷ []) 3 ∷ eqn (1 ∷ 2 ∷ 4 ∷ 5 ∷ []) 3 ∷ eqn (0 ∷ 2 ∷ 3 ∷ []) 5 ∷ eqn (1 ∷ 5 ∷ []) 4 ∷ eqn (0 ∷ 1 ∷ 2 ∷ []) 3 ∷ eqn (0 ∷ 4 ∷ []) 3 ∷ []) ∷
+    over 5 (eqn (1 ∷ 3 ∷ 4 ∷ []) 1 ∷ eqn (0 ∷ 1 ∷ 4 ∷ []) 6 ∷ eqn (1 ∷ 2 ∷ 3 ∷ 4 ∷ []) 3 ∷ eqn (1 ∷ 2 ∷ []) 0 ∷ eqn (0 ∷ 3 ∷ 4 ∷ []) 6 ∷ eqn (0 ∷ 1 ∷ 3 ∷ []) 5 ∷ eqn (0 ∷ 3 ∷ 4 ∷ []) 6 ∷ []) ∷
+    over 5 (eqn (0 ∷ 2 ∷ 3 ∷ 4 ∷ []) 0 ∷ eqn (0 ∷ 1 ∷ 2 ∷ []) 6 ∷ eqn (2 ∷ 4 ∷ []) 5 ∷ eqn (0 ∷ 1 ∷ 3 ∷ []) 4 ∷ eqn (0 ∷ 2 ∷ 4 ∷ []) 5 ∷ eqn (0 ∷ 1 ∷ 4 ∷ []) 3 ∷ []) ∷
+    over 4 (eqn (0 ∷ 1 ∷ 3 ∷ []) 7 ∷ eqn (1 ∷ 3 ∷ []) 4 ∷ eqn (0 ∷ 2 ∷ 3 ∷ []) 2 ∷ eqn (0 ∷ 1 ∷ 2 ∷ 3 ∷ []) 5 ∷ eqn (0 ∷ 2 ∷ []) 1 ∷ eqn (0 ∷ 1 ∷ 2 ∷ 3 ∷ []) 5 ∷ eqn (0 ∷ 2 ∷ 3 ∷ []) 2 ∷ []) ∷
+    over 5 (eqn (0 ∷ 1 ∷ 3 ∷ 4 ∷ []) 5 ∷ eqn (1 ∷ 4 ∷ []) 6 ∷ eqn (0 ∷ 1 ∷ 2 ∷ 4 ∷ []) 1 ∷ eqn (0 ∷ 3 ∷ 4 ∷ []) 1 ∷ eqn (0 ∷ 2 ∷ 3 ∷ []) 1 ∷ eqn (0 ∷ 1 ∷ 4 ∷ []) 6 ∷ eqn (0 ∷ 1 ∷ 2 ∷ 3 ∷ []) 5 ∷ []) ∷
+    over 6 (eqn (1 ∷ 4 ∷ 5 ∷ []) 0 ∷ eqn (0 ∷ 3 ∷ 4 ∷ []) 6 ∷ eqn (0 ∷ 2 ∷ 4 ∷ []) 5 ∷ eqn (3 ∷ 4 ∷ 5 ∷ []) 1 ∷ eqn (1 ∷ 2 ∷ 3 ∷ []) 7 ∷ eqn (0 ∷ 1 ∷ []) 7 ∷ eqn (0 ∷ 1 ∷ 4 ∷ []) 7 ∷ []) ∷
+    over 5 (eqn (0 ∷ 2 ∷ 3 ∷ []) 0 ∷ eqn (0 ∷ 1 ∷ 2 ∷ 4 ∷ []) 6 ∷ eqn (0 ∷ 1 ∷ 4 ∷ []) 2 ∷ eqn (1 ∷ 3 ∷ 4 ∷ []) 6 ∷ eqn (1 ∷ 3 ∷ 4 ∷ []) 6 ∷ eqn (1 ∷ 2 ∷ 4 ∷ []) 6 ∷ eqn (0 ∷ 4 ∷ []) 4 ∷ []) ∷
+    []
+
+denseAnswers : List (Result (List ℕ))
+denseAnswers =
+    ok (1 ∷ 3 ∷ 0 ∷ 5 ∷ 2 ∷ []) ∷
+    unsolvable ∷
+    unsolvable ∷
+    ok (3 ∷ 7 ∷ 2 ∷ 0 ∷ []) ∷
+    ok (3 ∷ 7 ∷ 4 ∷ 0 ∷ 5 ∷ 4 ∷ []) ∷
+    unsolvable ∷
+    ok (4 ∷ 1 ∷ 6 ∷ 7 ∷ []) ∷
+    ok (6 ∷ 4 ∷ 2 ∷ 0 ∷ 0 ∷ []) ∷
+    ok (4 ∷ 3 ∷ 1 ∷ 2 ∷ 0 ∷ []) ∷
+    ok (5 ∷ 3 ∷ 3 ∷ 5 ∷ 2 ∷ []) ∷
+    ok (7 ∷ 3 ∷ 5 ∷ 0 ∷ 1 ∷ []) ∷
+    ok (2 ∷ 2 ∷ 0 ∷ 5 ∷ []) ∷
+    ok (1 ∷ 4 ∷ 0 ∷ 7 ∷ 0 ∷ []) ∷
+    ok (6 ∷ 6 ∷ 0 ∷ 1 ∷ []) ∷
+    ok (1 ∷ 3 ∷ 1 ∷ 4 ∷ []) ∷
+    ok (7 ∷ 6 ∷ 2 ∷ 1 ∷ []) ∷
+    ok (2 ∷ 1 ∷ 2 ∷ 2 ∷ []) ∷
+    ok (2 ∷ 7 ∷ 6 ∷ 1 ∷ 1 ∷ 3 ∷ []) ∷
+    ok (5 ∷ 2 ∷ 2 ∷ 2 ∷ 1 ∷ []) ∷
+    ok (0 ∷ 1 ∷ 7 ∷ 5 ∷ 2 ∷ []) ∷
+    ok (3 ∷ 7 ∷ 2 ∷ 3 ∷ []) ∷
+    unsolvable ∷
+    ok (3 ∷ 4 ∷ 6 ∷ 5 ∷ 0 ∷ 4 ∷ []) ∷
+    ok (0 ∷ 6 ∷ 4 ∷ 4 ∷ 4 ∷ []) ∷
+    []
+
+random-dense : map (λ (q : System). lazyElimination (q .n) (q .equations)) denseSystems ≡ denseAnswers
+unfolding denseSystems denseAnswers lazyElimination wholeRun after used unit pop popEquation popVariable popDense passOver copy solveFor skip activate lowered pushed addedInto denseRow lastUnit fill start heaviest listing others upFrom downFrom keep firstOf lists outerRow meetRow meeting summed contradicted backSub pin symDiff evalVars
+random-dense = refl

@@ -1,19 +1,20 @@
 -- What lazy elimination answers: a solution or a contradiction, never one for the other, within 2m + n + 1 units.
 use mathlib.Core.Path.{_≡_, refl, sym, ap, _∙_, subst}
 use mathlib.Core.Logic.{_⊎_, inl, inr, _↔_}
-use mathlib.Core.List.{List}
+use mathlib.Core.List.{List, []}
 use mathlib.Core.Bool.{Bool, true, false, true≢false}
-use Prim.Native.Nat.{ℕ, _+_, _-_, _≤_, _<_, _^_}
+use Prim.Native.Nat.{ℕ, suc, _+_, _-_, _≤_, _<_, _^_}
 use native.Mathlib.Omega.{arith}
 use native.Mathlib.Decide.{decLt, decLe}
-use lib.ListN.{length, getD, List·getD-eq-default}
+use lib.ListN.{length, getD, replicate, List·getD-eq-default}
 use lib.Pow.{pow-pos}
 use Rattle.gf2.specs.Equation.{Equation, Each, Increasing, Sorted, Below, Meets, MeetsAll}
 use Rattle.gf2.specs.ByNumber.{blank, rowOf}
 use Rattle.gf2.specs.Span.{Cancels}
 use Rattle.gf2.specs.Ours.{anyOurs, allOurs, Apart, ourPart}
 use Rattle.gf2.specs.Result.{unsolvable, ok}
-use Rattle.lazy.specs.Lazy.{State, Build, more, ended, start, after, used, enough, wholeRun, answerOf, lazyElimination}
+use Rattle.lazy.specs.Lazy.{State, Build, more, ended, start, after, used, enough, wholeRun, answerOf, lazyElimination, unit, lastUnit, fill}
+use Rattle.sparse.specs.Eliminate.{contradicted, backSub}
 use Rattle.lazy.specs.Invariant.{Lent}
 use Rattle.lazy.specs.Description.{Described}
 use Rattle.lazy.specs.Safe.{Safe}
@@ -24,7 +25,7 @@ use Rattle.gf2.proofs.Spans.{solved-not-cancels}
 use Rattle.gf2.proofs.Results.{Case, refused, gave, which}
 use Rattle.lazy.proofs.Pivots.{listsAt-below}
 use Rattle.lazy.proofs.Run.{Right, Ended, ended-so, whole-right}
-use Rattle.lazy.proofs.Turns.{used-end, used-add, used-le}
+use Rattle.lazy.proofs.Turns.{after-end, used-end, used-add, used-le}
 use Rattle.lazy.proofs.NeverEmpty.{reached-safe}
 use Rattle.lazy.proofs.Shares.{ApartAt}
 use Rattle.lazy.proofs.Isolated.{shares, ours-same}
@@ -121,6 +122,18 @@ module _ (n : ℕ) (es : List Equation) (s : Sorted es) (b : Below n es) where
   -- idle variable, no priority falls below 0, and a solved variable is 0 before it is filled in.
   pub lazy-never-empty : (k : ℕ) (t : State) → after k n es (more (start n es)) ≡ more t → Safe n es t
   lazy-never-empty = reached-safe n es (lent n es s b)
+
+-- No equations: n zeros at once, in the last unit.
+none-unit : (n : ℕ) → unit n [] (start n []) ≡ ended (ok (replicate n 0))
+unfolding unit start lastUnit fill contradicted backSub
+none-unit n = refl
+
+pub lazy-none : (n : ℕ) → lazyElimination n [] ≡ ok (replicate n 0)
+unfolding lazyElimination wholeRun after
+lazy-none n = ap answerOf (ap (λ (k : ℕ). after k n [] (more (start n []))) one-more ∙ ap (after n n []) (none-unit n) ∙ after-end n [] n (ok (replicate n 0)))
+  where
+    one-more : enough n [] ≡ suc n
+    one-more = omega arith
 
 -- Two systems over the same cells have the same equations on our cells, which P marks, and no equation has one of ours
 -- beside one that is not. Where both are solved, our cells have the same values, whatever the other equations are.

@@ -193,6 +193,14 @@ outerRow-rising n k rows rows′ h e = rising-both n rows′ (l .rising s) (l .s
     l : Like rows rows′
     l = outerRow-like k rows rows′ s e
 
+-- rows in order get one more in order
+pub outerRow-echelon : (k : ℕ) (rows rows′ : List Equation) → Sorted rows → Echelon k rows → outerRow k rows ≡ ok rows′ → Echelon (suc k) rows′
+outerRow-echelon k rows rows′ s h e = go (outerRow-met rows k s) e
+  where
+    go : {res : Result (List Equation)} → RoundMet k rows res → res ≡ ok rows′ → Echelon (suc k) rows′
+    go (round-clash c) q = absurd (unsolvable≢ok q)
+    go (round-met a l f) q = subst (Echelon (suc k)) (ok-same q) (f h)
+
 -- ---- every row but the last
 
 -- all rows but the last are done
@@ -237,3 +245,10 @@ echelonForm-met rows s = go (outerRows-met (pred (length rows)) 0 (pred (length 
     go : {res : Result (List Equation)} → RowsMet 0 (pred (length rows)) rows res → FormMet rows res
     go (rows-clash r) = form-clash r
     go (rows-met a l f) = form-met a l (echelon-triangular a (pred (length rows)) (let z = l .size in omega arith) (f (echelon-zero rows)))
+
+pub echelonForm-like : (rows rows′ : List Equation) → Sorted rows → echelonForm rows ≡ ok rows′ → Like rows rows′ × Triangular rows′
+echelonForm-like rows rows′ s e = go (echelonForm-met rows s) e
+  where
+    go : {res : Result (List Equation)} → FormMet rows res → res ≡ ok rows′ → Like rows rows′ × Triangular rows′
+    go (form-clash r) q = absurd (unsolvable≢ok q)
+    go (form-met a l f) q = subst (λ (b : List Equation). Like rows b × Triangular b) (ok-same q) (l, f)
