@@ -1,4 +1,6 @@
 // The work areas of lazy elimination, and how they are set up.
+mod lists;
+mod sort;
 mod tally;
 
 ghost use mathlib.Core.Path.{_≡_};

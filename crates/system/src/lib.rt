@@ -2,6 +2,7 @@
 mod evaluation;
 
 pub use evaluation::eval_vars;
+
 mod order;
 mod shape;
 
