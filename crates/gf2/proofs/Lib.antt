@@ -1,5 +1,6 @@
 pub mod XorLaws
 pub mod Tests
+pub mod Both
 pub mod Each
 pub mod SymDiff
 pub mod VarLists

@@ -1,8 +1,8 @@
 -- The variables of an equation: the walk that tests their order, and that the test says `Rising`.
 use mathlib.Core.Path.{_≡_, refl, sym, _∙_}
-use mathlib.Core.Bool.{Bool, true, false, _&&_}
+use mathlib.Core.Bool.{true, false, _&&_}
 use mathlib.Core.List.{List, [], _∷_}
-use Prim.Native.Nat.{ℕ, zero, suc, _+_, _<_, _≤_, zero-le}
+use Prim.Native.Nat.{ℕ, suc, _+_, _<_, _≤_, zero-le}
 use native.Mathlib.Numerals.{add-one}
 use native.Mathlib.Omega.{arith}
 use borrow.Author.Tests.{le-leb, lt-leb, leb-true, lt-ltb, le-ltb, ltb-true}
@@ -11,7 +11,7 @@ use lib.Seq.{drop-cons}
 use lib.Dec.{leb, ltb}
 use Rattle.gf2.specs.Equation.{Rising}
 use Rattle.system.specs.System.{risesBelow, inOrder}
-use Rattle.system.proofs.Both.{both}
+use Rattle.gf2.proofs.Both.{both}
 
 -- i variables are passed, and all are in order where the rest rises from low
 pub record Ordered (n : ℕ) (vars : List ℕ) (low i : ℕ) : Type 0 where

@@ -1,4 +1,3 @@
-pub mod Both
 pub mod Climbing
 pub mod InOrder
 pub mod Evaluating
@@ -6,3 +5,5 @@ pub mod Reading
 pub mod Lowest
 pub mod Meeting
 pub mod Soundness
+pub mod Checking
+pub mod Examples

@@ -1,8 +1,8 @@
 -- The walk that meets each equation with the solution, and that the test says `MeetsAll`.
 use mathlib.Core.Path.{_≡_, refl, sym, _∙_}
-use mathlib.Core.Bool.{Bool, true, false, _&&_}
+use mathlib.Core.Bool.{true, false}
 use mathlib.Core.List.{List, [], _∷_}
-use Prim.Native.Nat.{ℕ, zero, suc, _+_, _-_, _<_, _≤_, zero-le}
+use Prim.Native.Nat.{ℕ, _+_, _-_, _<_, _≤_, zero-le}
 use native.Mathlib.Nat.{sub-zero}
 use native.Mathlib.Omega.{arith}
 use borrow.Author.Tests.{eq-eqb, ne-eqb, eqb-true}
@@ -13,7 +13,7 @@ use Rattle.gf2.proofs.Order.{rising-below}
 use Rattle.areas.specs.Stretch.{stretch}
 use Rattle.system.specs.System.{equationAt, equationsFrom, equations, allMet}
 use Rattle.system.specs.Fits.{Fits}
-use Rattle.system.proofs.Both.{both}
+use Rattle.gf2.proofs.Both.{both}
 use Rattle.system.proofs.Reading.{from-turn, from-end}
 
 -- ---- the test says that the vector meets each equation

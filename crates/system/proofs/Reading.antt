@@ -3,12 +3,9 @@ use mathlib.Core.Path.{_≡_, refl, sym, ap, _∙_}
 use mathlib.Core.List.{List, [], _∷_}
 use Prim.Native.Nat.{ℕ, zero, suc, _+_, _-_, _<_, _≤_}
 use native.Mathlib.Nat.{not-suc-le-zero, le-of-suc-le-suc, add-zero, sub-eq-zero-of-le, sub-zero, zero-add}
-use native.Mathlib.Numerals.{add-one}
 use native.Mathlib.Omega.{arith}
-use lib.ListN.{length, getD, take, drop, length-drop}
-use lib.Seq.{length-take-le}
-use Rattle.gf2.specs.Equation.{Equation, eqn}
-use Rattle.areas.specs.Stretch.{stretch}
+use lib.ListN.{length, getD, take, drop}
+use Rattle.gf2.specs.Equation.{Equation}
 use Rattle.system.specs.System.{equationAt, equationsFrom, equations}
 
 module _ (starts vars constants : List ℕ) where
@@ -58,8 +55,3 @@ module _ (starts vars constants : List ℕ) where
   -- the i-th is equation i
   pub equations-at : (m i : ℕ) (d : Equation) → i < m → getD (equations m starts vars constants) i d ≡ equationAt starts vars constants i
   equations-at m i d h = from-at m 0 i d h ∙ ap (equationAt starts vars constants) (zero-add i)
-
--- a stretch that lies within the list has the length that is asked for
-pub stretch-long : (b k : ℕ) (l : List ℕ) → b + k ≤ length l → length (stretch b k l) ≡ k
-unfolding stretch
-stretch-long b k l h = length-take-le k (drop b l) (rw (length-drop b l) (omega arith))

@@ -1,31 +1,31 @@
 -- What the rules 1 to 3 say of a system: kept exactly where it fits, and 3 names the lowest equation that is not in order.
-use mathlib.Core.Path.{_≡_, refl, sym, ap, _∙_}
+use mathlib.Core.Path.{_≡_, refl, sym, _∙_}
 use mathlib.Core.Logic.{_↔_}
 use mathlib.Core.Bool.{Bool, true, false, _&&_, false≢true}
-use mathlib.Core.List.{List, [], _∷_}
-use Prim.Native.Nat.{ℕ, zero, suc, _+_, _-_, _<_, _≤_, zero-le}
+use mathlib.Core.List.{List, []}
+use Prim.Native.Nat.{ℕ, zero, suc, _+_, _-_, _<_, _≤_}
 use native.Mathlib.Nat.{add-zero, zero-add, sub-self}
 use native.Mathlib.Omega.{arith}
 use borrow.Author.Tests.{le-leb, leb-true, eq-eqb, eqb-true, le-ltb, ltb-true, ltb-false}
 use lib.ListN.{length, getD}
 use lib.Dec.{eqb, leb, ltb}
-use Rattle.gf2.specs.Equation.{Equation, eqn, Each, Rising, Increasing, Sorted, Below}
-use Rattle.gf2.proofs.Each.{each-at, each-from, each-map}
+use Rattle.gf2.specs.Equation.{Equation, eqn, Each, Rising}
+use Rattle.gf2.proofs.Each.{each-from, each-map}
 use Rattle.gf2.proofs.Order.{rising-increasing, rising-below}
-use Rattle.areas.specs.Stretch.{stretch}
+use Rattle.areas.proofs.Stretch.{length-stretch}
 use Rattle.answers.specs.Sizes.{maxVariables, maxEquations, maxListed}
 use Rattle.answers.specs.Numbers.{numberOf}
 use Rattle.answers.specs.Calls.{pick}
+use Rattle.answers.proofs.Calls.{Early, early-from}
 use Rattle.answers.specs.declared.Answer.{Answer}
 use Rattle.answers.specs.declared.Answer.the-variants.{TooLarge, BadShape, BadEntry}
-use Rattle.answers.specs.declared.Rules.{Rules}
 use Rattle.answers.specs.declared.Rules.the-variants.{Kept, Broken}
 use Rattle.system.specs.System.{equationAt, equationsFrom, equations, startsKept, inOrder, lowestBad, sizesFit, shapeKept, systemRules}
 use Rattle.system.specs.Fits.{Fits, listedIn}
-use Rattle.system.proofs.Both.{both}
+use Rattle.gf2.proofs.Both.{both}
 use Rattle.system.proofs.Climbing.{Starts, starts-sound, starts-kept-back}
 use Rattle.system.proofs.InOrder.{rises-rising, rising-rises}
-use Rattle.system.proofs.Reading.{equations-at, equations-length, stretch-long}
+use Rattle.system.proofs.Reading.{equations-at, equations-length}
 use Rattle.system.proofs.Lowest.{lowest-none, lowest-good, lowest-bad}
 
 -- ---- the ladder
@@ -72,7 +72,7 @@ module _ (n m : ℕ) (starts vars constants : List ℕ) where
       let u : getD starts i 0 ≤ getD starts (i + 1) 0 = s .climbing i (i + 1) (omega arith) (omega arith) in
       let v : getD starts (i + 1) 0 ≤ getD starts (i + 1 + k) 0 = s .climbing (i + 1) (i + 1 + k) (omega arith) (omega arith) in
       let w : getD starts (i + 1) 0 ≤ getD starts m 0 = s .climbing (i + 1) m (omega arith) (omega arith) in
-      let l = stretch-long (getD starts i 0) (getD starts (i + 1) 0 - getD starts i 0) vars (omega (arith, s .last)) in
+      let l = length-stretch (getD starts i 0) (getD starts (i + 1) 0 - getD starts i 0) vars (omega (arith, s .last)) in
       rw (l, e, listed-from s k (i + 1) (omega arith)) (omega arith)
 
   -- from what the rules of 01 say to what engines read
@@ -156,3 +156,7 @@ pub rules-refuse : (n m : ℕ) (starts vars constants : List ℕ) (answer : Answ
 unfolding systemRules
 rules-refuse n m starts vars constants answer e =
     ladder-refuses (sizesFit n m (length vars)) (shapeKept m starts vars constants) (ltb (lowestBad n (equations m starts vars constants)) m) (lowestBad n (equations m starts vars constants)) answer e
+
+-- so a solver's call reads its answer back (answers' laws of calls)
+pub rules-early : (n m : ℕ) (starts vars constants : List ℕ) → Early (systemRules n m starts vars constants)
+rules-early n m starts vars constants = early-from (systemRules n m starts vars constants) (rules-refuse n m starts vars constants)

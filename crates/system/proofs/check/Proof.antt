@@ -1,9 +1,8 @@
 -- Each return is the definition at the rules' answer and the tests that led there.
-use mathlib.Core.Path.{_≡_, sym, _∙_}
+use mathlib.Core.Path.{sym, _∙_}
 use borrow.Author.Needs.{needs}
 use borrow.Author.Tests.{eq-eqb, ne-eqb}
-use Rattle.answers.specs.declared.Rules.the-variants.{Kept}
-use Rattle.system.specs.System.{systemRules, checkCall}
+use Rattle.system.specs.System.{checkCall}
 use Rattle.system.proofs.Soundness.{kept-sound}
 use Rattle.system.proofs.Meeting.{fits-solution}
 use Rattle.system.proofs.check.Statement.{statement}

@@ -1,9 +1,8 @@
 -- The walk keeps `Meeting`; `Fits` bounds each part that it reads and each variable in it.
-use mathlib.Core.Path.{_≡_, sym, _∙_}
-use Prim.Native.Nat.{_+_, _-_, _≤_, _<_}
+use mathlib.Core.Path.{sym, _∙_}
+use Prim.Native.Nat.{_+_, _-_}
 use native.Mathlib.Omega.{arith}
 use borrow.Author.Needs.{needs}
-use lib.ListN.{length, getD}
 use Rattle.system.proofs.Meeting.{Meeting, meeting-begin, meeting-read, meeting-low, meeting-turn, meeting-stop, meeting-end}
 use Rattle.system.proofs.evaluation.all_met.Statement.{statement}
 use Rattle.system.proofs.evaluation.all_met.Tie as tie

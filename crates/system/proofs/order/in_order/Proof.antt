@@ -23,7 +23,9 @@ returns : tie.Need-returns Inv-loop μ-loop
 returns c = search (needs, ordered-low)
 
 returns-2 : tie.Need-returns-2 Inv-loop μ-loop
-returns-2 c = search (needs, ordered-high)
+returns-2 c =
+    let l = c .before .before .before in
+    ordered-high (l .before .loop .inv) (l .loop-test .taken) (search needs) (omega arith)
 
 loop-again : tie.Need-loop-again Inv-loop μ-loop
 loop-again c = search (needs, ordered-turn)

@@ -1,10 +1,9 @@
 -- The walk keeps `Passed`; the rule of the starts bounds each part that it reads.
-use mathlib.Core.Path.{_≡_, sym, _∙_}
-use Prim.Native.Nat.{_+_, _-_, _≤_, _<_}
+use mathlib.Core.Path.{sym, _∙_}
+use Prim.Native.Nat.{_+_, _-_}
 use native.Mathlib.Omega.{arith}
 use borrow.Author.Needs.{needs}
 use borrow.Author.Tests.{not-true, not-false}
-use lib.ListN.{length, getD}
 use Rattle.system.proofs.Lowest.{Passed, passed-begin, passed-read, passed-turn, passed-stop, passed-end}
 use Rattle.system.proofs.order.lowest_bad.Statement.{statement}
 use Rattle.system.proofs.order.lowest_bad.Tie as tie

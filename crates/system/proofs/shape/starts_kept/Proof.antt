@@ -1,5 +1,4 @@
 -- Each return is the definition at the tests that led there.
-use native.Mathlib.Omega.{arith}
 use borrow.Author.Needs.{needs}
 use borrow.Author.Tests.{eq-eqb, ne-eqb}
 use Rattle.system.specs.System.{startsKept}
