@@ -12,3 +12,4 @@ pub mod VariablePop
 pub mod DenseWriting
 pub mod DensePop
 pub mod Seeking
+pub mod RowSum

@@ -25,7 +25,7 @@ use Rattle.lazy_pops.proofs.Padding.{push-padded, pop-padded, over-padd
 use Rattle.lazy_pops.proofs.Reading.{size, weight-place, variables-place, idle-place, priority-place, equations-place, solved-place, pivots-place}
 use Rattle.lazy_pops.proofs.Stacks.{pushed-longer}
 
-map-set : {A B : Type 0} (f : A → B) (l : List A) (i : ℕ) (a : A) → map f (set l i a) ≡ set (map f l) i (f a)
+pub map-set : {A B : Type 0} (f : A → B) (l : List A) (i : ℕ) (a : A) → map f (set l i a) ≡ set (map f l) i (f a)
 map-set f [] i a = refl
 map-set f (x ∷ xs) zero a = refl
 map-set f (x ∷ xs) (suc i) a = ap (λ t. f x ∷ t) (map-set f xs i a)

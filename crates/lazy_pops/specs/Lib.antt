@@ -3,3 +3,4 @@ pub mod Laid
 pub mod Writes
 pub mod Pops
 pub mod Idle
+pub mod Adding
