@@ -11,7 +11,8 @@ use lib.Seq.{getD-set-other}
 use Rattle.gf2.specs.Equation.{Equation, lists}
 use Rattle.gf2.specs.ByNumber.{rowOf, listsAt}
 use Rattle.gf2.specs.NumberLists.{keep, Distinct}
-use Rattle.gf2.proofs.Members.{and-true, listed-differ, head-listed, tail-listed}
+use Rattle.gf2.proofs.Each.{each-at}
+use Rattle.gf2.proofs.Members.{and-true, listed-each, listed-differ, head-listed, tail-listed}
 use Rattle.gf2.proofs.Counting.{count-one}
 use Rattle.lazy.specs.Invariant.{Inv, free}
 use Rattle.lazy.specs.Lazy.{State, listing, others}
@@ -35,6 +36,11 @@ but-none k [] h = refl
 but-none k (e ∷ es) h = but-other k e es (h e (head-listed e es)) ∙ ap (λ (l : List ℕ). e ∷ l) (but-none k es (λ f q. h f (tail-listed f e es q)))
 
 -- an equation is below the number of equations
+pub listing-below : (sys : List Equation) (v k : ℕ) → k < length (listing sys v) → getD (listing sys v) k 0 < length sys
+listing-below sys v k h =
+    each-at (λ e. e < length sys) (listing sys v) 0 k h
+    (listed-each (λ e. e < length sys) (listing sys v) (λ e q. listsAt-below sys v e (sym (lists-listing sys v e) ∙ q)))
+
 pub but-past : (sys : List Equation) (v m : ℕ) → m ≡ length sys → but m (listing sys v) ≡ listing sys v
 but-past sys v m h =
     but-none m (listing sys v) (λ e q w. let b = listsAt-below sys v e (sym (lists-listing sys v e) ∙ q) in omega arith)

@@ -13,3 +13,4 @@ pub mod DenseWriting
 pub mod DensePop
 pub mod Seeking
 pub mod RowSum
+pub mod AddTurns

@@ -43,6 +43,8 @@ pub record AddCells (n m lengths scratch f e : ℕ) (numbers words : List ℕ) :
   pub f-word : f < length words
   pub e-word : e < length words
   pub short : n ≤ maxVariables
+  pub f-short : getD numbers (lengths + f) 0 ≤ n
+  pub e-short : getD numbers (lengths + e) 0 ≤ n
 
 module _ {n m : ℕ} {layout : Layout} {sys : List Equation} {s : State} {lens scratch f e : ℕ} {numbers words : List ℕ} (a : AddAt n m layout sys s lens scratch f e numbers words) where
   d : Laid n m layout sys s numbers
@@ -70,13 +72,6 @@ module _ {n m : ℕ} {layout : Layout} {sys : List Equation} {s : State} {lens s
       ∙ List·getD-append (map (λ (r : Equation). r .c) (s .rows)) (padded (length sys) (map (λ (r : Equation). r .c) (s .dense))) 0 x (omega (arith, many-rows))
       ∙ List·getD-map (λ (r : Equation). r .c) (s .rows) x blank
 
-  pub add-cells : AddCells n m lens scratch f e numbers words
-  add-cells =
-      let p = places d in let q = a .rows .place in let r = a .rows .scratch-place in
-      let x = row-before f m n (a .f-in) in let y = row-before e m n (a .e-in) in let w = words-longer in
-      let i = a .f-in in let j = a .e-in in let k = a .rows .small in
-      record { first = omega arith; second = omega arith; f-row = omega arith; e-row = omega arith; room = omega arith; f-word = omega arith; e-word = omega arith; short = k }
-
   length-at : (x : ℕ) → x < m → getD numbers (lens + x) 0 ≡ length (rowOf (s .rows) x .vars)
   length-at x h = rw (← (a .rows .place)) (read-length d x h)
 
@@ -85,6 +80,13 @@ module _ {n m : ℕ} {layout : Layout} {sys : List Equation} {s : State} {lens s
 
   narrow-at : (x : ℕ) → x < m → getD numbers (lens + x) 0 ≤ n
   narrow-at x h = let l = rising-length 0 n (rowOf (s .rows) x .vars) (omega arith) (row-rising x h) in omega (arith, length-at x h)
+
+  pub add-cells : AddCells n m lens scratch f e numbers words
+  add-cells =
+      let p = places d in let q = a .rows .place in let r = a .rows .scratch-place in
+      let x = row-before f m n (a .f-in) in let y = row-before e m n (a .e-in) in let w = words-longer in
+      let i = a .f-in in let j = a .e-in in let k = a .rows .small in
+      record { first = omega arith; second = omega arith; f-row = omega arith; e-row = omega arith; room = omega arith; f-word = omega arith; e-word = omega arith; short = k; f-short = narrow-at f i; e-short = narrow-at e j }
 
   row-padded : (x : ℕ) → x < m → stretch (x * n) n numbers ≡ padded n (rowOf (s .rows) x .vars)
   unfolding segments numbersOf joined
