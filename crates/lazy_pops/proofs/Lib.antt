@@ -14,3 +14,5 @@ pub mod DensePop
 pub mod Seeking
 pub mod RowSum
 pub mod AddTurns
+pub mod Recording
+pub mod PopCases

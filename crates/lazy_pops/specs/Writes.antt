@@ -142,3 +142,17 @@ pub record CopyReady (n m dense e len d : ℕ) (numbers words : List ℕ) : Type
 pub record CopyDone (n m : ℕ) (layout : Layout) (sys : List Equation) (s : State) (e : ℕ) (numbers′ words′ : List ℕ) : Type 0 where
   pub laid : Laid n m layout sys (copied e s) numbers′
   pub words-are : words′ ≡ wordsOf sys (copied e s)
+
+-- k equations are solved, and one more is to be recorded
+pub record SolvedAt (n m : ℕ) (layout : Layout) (sys : List Equation) (s : State) (k v : ℕ) (numbers : List ℕ) : Type 0 where
+  pub laid : Laid n m layout sys s numbers
+  pub k-is : k ≡ length (s .solved)
+  pub k-in : k < m
+  pub v-in : v < n
+
+pub record SolvedReady (layout : Layout) (k v : ℕ) (numbers : List ℕ) : Type 0 where
+  pub n : ℕ
+  pub m : ℕ
+  pub sys : List Equation
+  pub s : State
+  pub at : SolvedAt n m layout sys s k v numbers

@@ -8,7 +8,8 @@ ghost use Rattle.gf2.specs.Equation.{Equation};
 ghost use Rattle.lazy.specs.Lazy.{State, others};
 ghost use Rattle.lazy_pops.specs.Idle.{RowFits, firstMarked};
 ghost use Rattle.lazy_pops.specs.Adding.{addOne, AddAt, AddReady, AddDone, AddsAt, AddsReady, OthersAt, OthersReady};
-ghost use Rattle.lazy_pops.specs.Writes.{addTo};
+ghost use Rattle.lazy_pops.specs.Laid.{Laid};
+ghost use Rattle.lazy_pops.specs.Writes.{addTo, weightless, recorded, SolvedAt, SolvedReady};
 
 // The first marked variable of the `count` from `row` on; 0 where none is.
 fn first_idle(numbers: &[u32], row: usize, count: usize, idle: usize) -> u32
@@ -51,4 +52,28 @@ fn add_listed(numbers: &mut [u32], words: &mut [u64], n: usize, lengths: usize, 
         }
         k += 1;
     }
+}
+
+// Equation e is added into the other equations that listed v at the start, in equation order.
+fn add_to_others(numbers: &mut [u32], words: &mut [u64], layout: Layout, n: usize, m: usize, v: usize, e: usize)
+    requires { ⌜ OthersReady n m layout v e (now numbers) (now words) ⌝ }
+    ensures { λ _. ⌜ ((sys : List Equation) (s : State) → OthersAt n m layout sys s v e (now (numbers .entry)) (now (words .entry)) → AddDone n m layout sys (addTo (others sys v e) e s) (now (numbers .exit)) (now (words .exit))) ⌝ }
+{
+    let first = layout.starts + v;
+    let from = numbers[first] as usize;
+    let to = numbers[first + 1] as usize;
+    add_listed(numbers, words, n, layout.lengths, layout.dense + m * n, layout.lists + from, to - from, e);
+}
+
+// Equation e, the k-th that is solved, has solved v: both are recorded, and the weight of v is 0 from here on.
+fn record_solved(numbers: &mut [u32], layout: Layout, k: usize, e: u32, v: u32)
+    requires { ⌜ SolvedReady layout k v (now numbers) ⌝ }
+    ensures { λ _. ⌜ ((n m : ℕ) (sys : List Equation) (s : State) → SolvedAt n m layout sys s k v (now (numbers .entry)) → Laid n m layout sys (weightless v (recorded e v s)) (now (numbers .exit))) ⌝ }
+{
+    let solved = layout.solved + k;
+    numbers[solved] = e;
+    let pivots = layout.pivots + k;
+    numbers[pivots] = v;
+    let weight = layout.weight + v as usize;
+    numbers[weight] = 0;
 }
