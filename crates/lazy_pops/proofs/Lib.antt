@@ -16,3 +16,4 @@ pub mod RowSum
 pub mod AddTurns
 pub mod Recording
 pub mod PopCases
+pub mod SolvePop

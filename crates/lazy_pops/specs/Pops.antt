@@ -66,3 +66,13 @@ pub record DenseReady (n m : ℕ) (layout : Layout) (stand : Stand) (e : ℕ) (n
   pub s : State
   pub es : List ℕ
   pub at : EquationAt n m layout sys s e es 0 stand numbers words
+
+pub record SolveReady (n m : ℕ) (layout : Layout) (stand : Stand) (e : ℕ) (numbers words : List ℕ) : Type 0 where
+  pub sys : List Equation
+  pub s : State
+  pub es : List ℕ
+  pub at : EquationAt n m layout sys s e es 1 stand numbers words
+
+pub record SolveDone (n m : ℕ) (layout : Layout) (sys : List Equation) (s′ : State) (stand′ : Stand) (numbers′ words′ : List ℕ) : Type 0 where
+  pub shows : Shows n m layout sys s′ stand′ numbers′
+  pub words-are : words′ ≡ wordsOf sys s′

@@ -1,14 +1,17 @@
 // Equations of priority 1: solved for their one idle variable.
+use crate::variables::lower_listed;
 use lazy_setup::{Layout, Stand};
 
 ghost use mathlib.Core.Path.{_≡_};
 ghost use mathlib.Core.List.{List};
 ghost use Prim.Native.Nat.{ℕ};
 ghost use Rattle.gf2.specs.Equation.{Equation};
-ghost use Rattle.lazy.specs.Lazy.{State, others};
+ghost use Rattle.lazy.specs.Lazy.{State, others, solveFor};
+ghost use Rattle.lazy.specs.Safe.{pivotOf};
 ghost use Rattle.lazy_pops.specs.Idle.{RowFits, firstMarked};
 ghost use Rattle.lazy_pops.specs.Adding.{addOne, AddAt, AddReady, AddDone, AddsAt, AddsReady, OthersAt, OthersReady};
 ghost use Rattle.lazy_pops.specs.Laid.{Laid};
+ghost use Rattle.lazy_pops.specs.Pops.{EquationAt, SolveReady, SolveDone};
 ghost use Rattle.lazy_pops.specs.Writes.{addTo, weightless, recorded, SolvedAt, SolvedReady};
 
 // The first marked variable of the `count` from `row` on; 0 where none is.
@@ -76,4 +79,20 @@ fn record_solved(numbers: &mut [u32], layout: Layout, k: usize, e: u32, v: u32)
     numbers[pivots] = v;
     let weight = layout.weight + v as usize;
     numbers[weight] = 0;
+}
+
+// Equation e was popped, and its priority is 1: it solves its one idle variable.
+pub fn solve_for(numbers: &mut [u32], words: &mut [u64], layout: Layout, n: usize, m: usize, stand: Stand, e: u32) -> Stand
+    requires { ⌜ SolveReady n m layout stand e (now numbers) (now words) ⌝ }
+    ensures { λ r. ⌜ ((sys : List Equation) (s : State) (es : List ℕ) → EquationAt n m layout sys s e es 1 stand (now (numbers .entry)) (now (words .entry)) → SolveDone n m layout sys (solveFor sys (pivotOf s e) e es s) r (now (numbers .exit)) (now (words .exit))) ⌝ }
+{
+    let at = layout.lengths + e as usize;
+    let len = numbers[at] as usize;
+    let v = first_idle(numbers, e as usize * n, len, layout.idle);
+    record_solved(numbers, layout, stand.solved, e, v);
+    add_to_others(numbers, words, layout, n, m, v as usize, e as usize);
+    let mut next = stand;
+    next.solved = stand.solved + 1;
+    next.equations = lower_listed(numbers, layout, m, v as usize, e as usize, stand.equations);
+    next
 }
