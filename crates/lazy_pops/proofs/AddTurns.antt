@@ -57,7 +57,7 @@ module _ {n m : ℕ} {layout : Layout} {sys : List Equation} {s : State} {v lens
     cell-is =
         let d = i .at .rows .laid in
         let c : k < getD numbers (layout .starts + v + 1) 0 - getD numbers (layout .starts + v) 0 =
-            rw (to-at d v (i .at .v-in), from-at d v (omega (arith, i .at .v-in))) (omega (arith, i .at .count-is)) in
+        rw (to-at d v (i .at .v-in), from-at d v (omega (arith, i .at .v-in))) (omega (arith, i .at .count-is)) in
         let l : list ≡ layout .lists + getD numbers (layout .starts + v) 0 = rw (from-at d v (omega (arith, i .at .v-in))) (i .at .list-is) in
         ap (λ (b : ℕ). getD numbers (b + k) 0) l
         ∙ sym (getD-stretch (layout .lists + getD numbers (layout .starts + v) 0) (getD numbers (layout .starts + v + 1) 0 - getD numbers (layout .starts + v) 0) k 0 numbers c)
@@ -84,19 +84,27 @@ module _ {n m : ℕ} {layout : Layout} {sys : List Equation} {s : State} {v lens
         → Adding n m layout sys s v lens scratch list count e numbers′ words′ (k + 1)
     unfolding withRows addOne addedInto
     adding-turn {numbers′} {words′} q a =
-      let split : but e (drop k (listing sys v)) ≡ getD numbers (list + k) 0 ∷ but e (drop (k + 1) (listing sys v)) =
-          rw next (but-other e (getD numbers (list + k) 0) (drop (k + 1) (listing sys v)) q) in
-      record {
-      rows = set (i .rows) (getD numbers (list + k) 0) (sum (rowOf (i .rows) (getD numbers (list + k) 0)) (rowOf (i .rows) e));
-      at = record {
-        rows = record {
-          laid = a .laid; words-are = a .words-are; rising = a .rising; place = i .at .rows .place; scratch-place = i .at .rows .scratch-place; small = i .at .rows .small;
-        };
-        v-in = i .at .v-in; e-in = i .at .e-in; list-is = i .at .list-is; count-is = i .at .count-is;
-      };
-      within = omega arith;
-      same = sym (ap (λ (l : List ℕ). addedInto l e (i .rows)) split) ∙ i .same;
-    }
+        let split : but e (drop k (listing sys v)) ≡ getD numbers (list + k) 0 ∷ but e (drop (k + 1) (listing sys v)) =
+        rw next (but-other e (getD numbers (list + k) 0) (drop (k + 1) (listing sys v)) q) in
+        record {
+          rows = set (i .rows) (getD numbers (list + k) 0) (sum (rowOf (i .rows) (getD numbers (list + k) 0)) (rowOf (i .rows) e));
+          at = record {
+            rows = record {
+              laid = a .laid;
+              words-are = a .words-are;
+              rising = a .rising;
+              place = i .at .rows .place;
+              scratch-place = i .at .rows .scratch-place;
+              small = i .at .rows .small;
+            };
+            v-in = i .at .v-in;
+            e-in = i .at .e-in;
+            list-is = i .at .list-is;
+            count-is = i .at .count-is;
+          };
+          within = omega arith;
+          same = sym (ap (λ (l : List ℕ). addedInto l e (i .rows)) split) ∙ i .same;
+        }
 
   pub adding-end : count ≤ k → AddDone n m layout sys (addTo (others sys v e) e s) numbers words
   unfolding withRows addTo addedInto keep

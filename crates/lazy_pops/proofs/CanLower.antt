@@ -24,10 +24,13 @@ use Rattle.lazy_pops.proofs.Stacks.{but-other}
 pub can-lower : (es priority : List ℕ) → Distinct es → ((e : ℕ) → lists e es ≡ true → e < length priority) → ((e : ℕ) → lists e es ≡ true → 1 ≤ getD priority e 0)
     → Lowers es priority
 can-lower [] priority u b p = tt
-can-lower (e ∷ es) priority u b p =
-    (b e (head-listed e es), p e (head-listed e es), can-lower es (set priority e (pred (getD priority e 0))) (u .1)
+can-lower (e ∷ es) priority u b p = (
+  b e (head-listed e es),
+  p e (head-listed e es),
+  can-lower es (set priority e (pred (getD priority e 0))) (u .1)
       (λ f q. rw (length-set priority e (pred (getD priority e 0))) (b f (tail-listed f e es q)))
-      (λ f q. rw (getD-set-other priority e f (pred (getD priority e 0)) 0 (listed-differ f e es q (u .0))) (p f (tail-listed f e es q))))
+      (λ f q. rw (getD-set-other priority e f (pred (getD priority e 0)) 0 (listed-differ f e es q (u .0))) (p f (tail-listed f e es q))),
+)
 
 -- one that does not stand in the list
 pub but-none : (k : ℕ) (es : List ℕ) → ((e : ℕ) → lists e es ≡ true → e ≢ k) → but k es ≡ es
@@ -57,11 +60,11 @@ free-positive n sys s i v f e l =
 pub listing-lowers : (n : ℕ) (sys : List Equation) (s : State) → Inv n sys s → (v : ℕ) → free (s .idle) (s .weight) v ≡ true → Lowers (listing sys v) (s .priority)
 listing-lowers n sys s i v f =
     can-lower (listing sys v) (s .priority) (distinct-listing sys v)
-      (λ e q. free-positive n sys s i v f e (sym (lists-listing sys v e) ∙ q) .0)
-      (λ e q. free-positive n sys s i v f e (sym (lists-listing sys v e) ∙ q) .1)
+    (λ e q. free-positive n sys s i v f e (sym (lists-listing sys v e) ∙ q) .0)
+    (λ e q. free-positive n sys s i v f e (sym (lists-listing sys v e) ∙ q) .1)
 
 pub others-lower : (n : ℕ) (sys : List Equation) (s : State) → Inv n sys s → (v e : ℕ) → free (s .idle) (s .weight) v ≡ true → Lowers (others sys v e) (s .priority)
 others-lower n sys s i v e f =
     can-lower (others sys v e) (s .priority) (distinct-others sys v e)
-      (λ g q. free-positive n sys s i v f g (and-true (not (eqb g e)) (listsAt sys v g) (sym (lists-others sys v e g) ∙ q) .1) .0)
-      (λ g q. free-positive n sys s i v f g (and-true (not (eqb g e)) (listsAt sys v g) (sym (lists-others sys v e g) ∙ q) .1) .1)
+    (λ g q. free-positive n sys s i v f g (and-true (not (eqb g e)) (listsAt sys v g) (sym (lists-others sys v e g) ∙ q) .1) .0)
+    (λ g q. free-positive n sys s i v f g (and-true (not (eqb g e)) (listsAt sys v g) (sym (lists-others sys v e g) ∙ q) .1) .1)

@@ -98,14 +98,29 @@ module _ {n m : ℕ} {layout : Layout} {sys : List Equation} {s : State} {e : �
 
   pub pop-copied : {numbers′ words′ : List ℕ} → getD numbers (layout .lengths + e) 0 ≢ 0 → CopyDone n m layout sys (passOver es s) e numbers′ words′
       → After n m layout sys (popDense e es s) (More (record {
-        variables = stand .variables; equations = stand .equations; solved = stand .solved; dense = stand .dense + 1; remaining = stand .remaining; done = stand .done;
+        variables = stand .variables;
+        equations = stand .equations;
+        solved = stand .solved;
+        dense = stand .dense + 1;
+        remaining = stand .remaining;
+        done = stand .done;
       })) numbers′ words′
   unfolding passOver copied copy standOf
   pop-copied h q =
-      rw (dense-copy e es s (λ z. h (size-is ∙ z)))
-      (record { laid = q .laid; counted = rw (a .shows .counted) (ap (λ (x : ℕ). record {
-        variables = length (s .variables); equations = length es; solved = length (s .solved); dense = x; remaining = pred (s .remaining); done = s .denseDone;
-      }) (sym (length-append (s .dense) (rowOf (s .rows) e ∷ [])))) }, q .words-are)
+      rw (dense-copy e es s (λ z. h (size-is ∙ z))) (
+        record {
+          laid = q .laid;
+          counted = rw (a .shows .counted) (ap (λ (x : ℕ). record {
+            variables = length (s .variables);
+            equations = length es;
+            solved = length (s .solved);
+            dense = x;
+            remaining = pred (s .remaining);
+            done = s .denseDone;
+          }) (sym (length-append (s .dense) (rowOf (s .rows) e ∷ []))));
+        },
+        q .words-are,
+      )
 
   pub pop-clash : getD numbers (layout .lengths + e) 0 ≡ 0 → getD words e 0 ≢ 0 → After n m layout sys (popDense e es s) Unsolvable numbers words
   pop-clash h g = rw (dense-clash e es s (sym size-is ∙ h) (λ z. g (constant-is ∙ z))) tt

@@ -4,7 +4,6 @@ use mathlib.Core.Logic.{inl}
 use mathlib.Core.List.{List, [], _∷_, _++_, append-nil, append-assoc, map, map-append}
 use Prim.Native.Nat.{ℕ, zero, suc, _+_, _-_, _*_, _≤_, _<_}
 use native.Mathlib.Nat.{zero-add, suc-add}
-
 use native.Mathlib.Omega.{arith}
 use lib.ListN.{length, getD, set, replicate, length-set, length-map, length-append, length-replicate, List·getD-map, List·getD-append}
 use Rattle.gf2.specs.Equation.{Equation}
@@ -15,7 +14,6 @@ use Rattle.areas.specs.Stretch.{stretch, put}
 use Rattle.areas.specs.Rows.{padded, laid, Narrow}
 use Rattle.areas.proofs.Offsets.{row-before, row-begins}
 use Rattle.areas.proofs.Rows.{length-laid, length-padded, laid-append, laid-cons, laid-nil, padded-zeros}
-
 use Rattle.areas.proofs.Stretch.{length-put, put-append-left}
 use Rattle.lazy.specs.Lazy.{State}
 use Rattle.lazy_setup.specs.declared.Layout.{Layout}
@@ -37,7 +35,7 @@ more-rows n m d rows vs k f h g =
     let l = length-laid n rows f in
     let r = row-before (length rows) m n h in
     let e : laid n (rows ++ (vs ∷ [])) ≡ (laid n rows ++ vs) ++ replicate (n - length vs) 0 =
-        laid-append n rows (vs ∷ []) ∙ one ∙ sym (append-assoc (laid n rows) vs (replicate (n - length vs) 0)) in
+    laid-append n rows (vs ∷ []) ∙ one ∙ sym (append-assoc (laid n rows) vs (replicate (n - length vs) 0)) in
     rw (e, padded-zeros (m * n) (n - length vs) (laid n rows ++ vs) (rw (length-append (laid n rows) vs) (omega arith)), ← k, ← l)
     (push-many (m * n) (laid n rows) vs (omega arith))
   where
@@ -77,7 +75,7 @@ module _ {n m : ℕ} {layout : Layout} {sys : List Equation} {s : State} {dense 
   r-narrow =
       let g = List·getD-map (λ (r : Equation). r .vars) (s .rows) e blank in
       let k : e < length (map (λ (r : Equation). r .vars) (s .rows)) =
-          rw (length-map (s .rows) (λ (r : Equation). r .vars)) (omega (arith, a .e-in, a .laid .many, a .laid .sized .rows)) in
+      rw (length-map (s .rows) (λ (r : Equation). r .vars)) (omega (arith, a .e-in, a .laid .many, a .laid .sized .rows)) in
       rw g at (a .laid .sized .narrow e k)
 
   pub words-long : length words ≡ m + m
@@ -86,8 +84,11 @@ module _ {n m : ℕ} {layout : Layout} {sys : List Equation} {s : State} {dense 
       let z = a .laid .sized .dense in
       let q = length-map (s .dense) (λ (r : Equation). r .c) in
       ap (λ (l : List ℕ). length l) (a .words-are)
-      ∙ rw (length-append (map (λ (r : Equation). r .c) (s .rows)) (padded (length sys) (map (λ (r : Equation). r .c) (s .dense))), length-map (s .rows) (λ (r : Equation). r .c),
-        length-padded (length sys) (map (λ (r : Equation). r .c) (s .dense)) (omega arith)) (omega (arith, a .laid .sized .rows, a .laid .many))
+      ∙ rw (
+        length-append (map (λ (r : Equation). r .c) (s .rows)) (padded (length sys) (map (λ (r : Equation). r .c) (s .dense))),
+        length-map (s .rows) (λ (r : Equation). r .c),
+        length-padded (length sys) (map (λ (r : Equation). r .c) (s .dense)) (omega arith),
+      ) (omega (arith, a .laid .sized .rows, a .laid .many))
 
   pub copy-cells : CopyCells n m dense e len d numbers words
   copy-cells =
@@ -130,10 +131,10 @@ module _ {n m : ℕ} {layout : Layout} {sys : List Equation} {s : State} {dense 
       let o : length (laid n vs) ≤ m * n = rw (l, k) (row-begins (d + 1) m n (omega (arith, a .d-in))) in
       let q : length (lengths (s .dense)) ≡ d = length-map (s .dense) (λ (r : Equation). length (r .vars)) ∙ sym (a .d-is) in
       let last : set (padded m (lengths (s .dense))) d len ≡ padded m (lengths rows) =
-          rw (map-append (λ (r : Equation). length (r .vars)) (s .dense) (r ∷ []), ← (a .size), ← q) (push-padded m (lengths (s .dense)) len (omega (arith, a .d-in))) in
+      rw (map-append (λ (r : Equation). length (r .vars)) (s .dense) (r ∷ []), ← (a .size), ← q) (push-padded m (lengths (s .dense)) len (omega (arith, a .d-in))) in
       set-right (padded (m * n) (laid n vs)) (replicate n 0 ++ padded m (lengths (s .dense))) (m * n) (n + d) len (length-padded (m * n) (laid n vs) o)
       ∙ ap (λ (t : List ℕ). padded (m * n) (laid n vs) ++ t)
-        (set-right (replicate n 0) (padded m (lengths (s .dense))) n d len (length-replicate {A = ℕ} n 0) ∙ ap (λ (t : List ℕ). replicate n 0 ++ t) last)
+      (set-right (replicate n 0) (padded m (lengths (s .dense))) n d len (length-replicate {A = ℕ} n 0) ∙ ap (λ (t : List ℕ). replicate n 0 ++ t) last)
 
   pub word-is : getD words e 0 ≡ r .c
   unfolding wordsOf
@@ -153,7 +154,7 @@ module _ {n m : ℕ} {layout : Layout} {sys : List Equation} {s : State} {dense 
       (ap (λ (l : List ℕ). set l (m + d) (r .c)) (a .words-are)
       ∙ set-right (map (λ (r : Equation). r .c) (s .rows)) (padded (length sys) (map (λ (r : Equation). r .c) (s .dense))) m d (r .c) z
       ∙ ap (λ (t : List ℕ). map (λ (r : Equation). r .c) (s .rows) ++ t)
-        (rw (map-append (λ (r : Equation). r .c) (s .dense) (r ∷ []), ← p) (push-padded (length sys) (map (λ (r : Equation). r .c) (s .dense)) (r .c) (omega (arith, a .d-in, a .laid .many)))))
+      (rw (map-append (λ (r : Equation). r .c) (s .dense) (r ∷ []), ← p) (push-padded (length sys) (map (λ (r : Equation). r .c) (s .dense)) (r .c) (omega (arith, a .d-in, a .laid .many)))))
 
   pub copy-done : CopyDone n m layout sys s e (set (put (dense + d * n) (stretch (e * n) len numbers) numbers) (dense + (m * n + (n + d))) len) (set words (m + d) (getD words e 0))
   unfolding segments copied part offset
@@ -164,15 +165,22 @@ module _ {n m : ℕ} {layout : Layout} {sys : List Equation} {s : State} {dense 
       let sz : length (getD (segments n sys s) 13 []) ≡ m * n + (n + m) = size (a .laid) 13 in
       let one = write-part (segmented (a .laid)) 13 dense (dense-place (a .laid) ∙ a .place) (d * n) (r .vars) (omega arith) in
       let two = write-cell one 13 dense (dense-place (a .laid) ∙ a .place) (m * n + (n + d)) len
-          (rw (length-put (d * n) (r .vars) (getD (segments n sys s) 13 []) (omega arith)) (omega (arith, a .d-in))) in
+      (rw (length-put (d * n) (r .vars) (getD (segments n sys s) 13 []) (omega arith)) (omega (arith, a .d-in))) in
       let l : length (s .dense ++ (r ∷ [])) ≡ d + 1 = rw (length-append (s .dense) (r ∷ [])) (omega (arith, a .d-is)) in
       record {
         laid = rw copied-row (relaid (a .laid) (copied e s) two
-          (ap (λ (t : List ℕ). set (segments n sys s) 13 t) (ap (λ (t : List ℕ). set t (m * n + (n + d)) len) part-written ∙ lengths-written ∙ rw (a .laid .many)))
-          (record {
-            rows = z .rows; narrow = z .narrow; weight = z .weight; variables = z .variables; idle = z .idle; priority = z .priority; equations = z .equations; solved = z .solved;
-            dense = omega (arith, a .d-in, a .laid .many);
-            dense-narrow = narrow-more n (s .dense) r (z .dense-narrow) r-narrow;
-          }));
+            (ap (λ (t : List ℕ). set (segments n sys s) 13 t) (ap (λ (t : List ℕ). set t (m * n + (n + d)) len) part-written ∙ lengths-written ∙ rw (a .laid .many)))
+            (record {
+              rows = z .rows;
+              narrow = z .narrow;
+              weight = z .weight;
+              variables = z .variables;
+              idle = z .idle;
+              priority = z .priority;
+              equations = z .equations;
+              solved = z .solved;
+              dense = omega (arith, a .d-in, a .laid .many);
+              dense-narrow = narrow-more n (s .dense) r (z .dense-narrow) r-narrow;
+            }));
         words-are = words-written;
       }

@@ -17,3 +17,4 @@ pub mod AddTurns
 pub mod Recording
 pub mod PopCases
 pub mod SolvePop
+pub mod EquationPop

@@ -47,6 +47,6 @@ push-many k l s h =
     let z : List ℕ = replicate (k - length l) 0 in
     let e : k - (length l + length s) ≡ k - length l - length s = omega arith in
     let o : put 0 s (replicate (k - length l) 0) ≡ s ++ replicate (k - length l - length s) 0 =
-        rw sub-zero at (over-padded (k - length l) s [] (omega arith) (omega arith)) in
+    rw sub-zero at (over-padded (k - length l) s [] (omega arith) (omega arith)) in
     ap (λ (b : ℕ). put b s (l ++ z)) (sym (add-zero (length l))) ∙ put-append-right 0 s l z
     ∙ rw (length-append l s, e, append-assoc l s (replicate (k - length l - length s) 0)) (ap (λ (t : List ℕ). l ++ t) o)

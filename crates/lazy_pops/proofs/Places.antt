@@ -33,8 +33,20 @@ pub record Places (n m t : ℕ) (layout : Layout) (size : ℕ) : Type 0 where
 placed : (n m t : ℕ) (layout : Layout) (size : ℕ) → layout ≡ layoutOf n m t → size ≡ layoutOf n m t .dense + (m * n + (n + m)) → Places n m t layout size
 unfolding layoutOf
 placed n m t layout size p q = rw p (record {
-  lengths = refl; lists = refl; starts = refl; weight = refl; variables = refl; idle = refl; position = refl; priority = refl; equations = refl; solved = refl;
-  pivots = refl; count = refl; dense = refl; all = q;
+  lengths = refl;
+  lists = refl;
+  starts = refl;
+  weight = refl;
+  variables = refl;
+  idle = refl;
+  position = refl;
+  priority = refl;
+  equations = refl;
+  solved = refl;
+  pivots = refl;
+  count = refl;
+  dense = refl;
+  all = q;
 })
 
 module _ {n m : ℕ} {layout : Layout} {sys : List Equation} {s : State} {numbers : List ℕ} (d : Laid n m layout sys s numbers) where

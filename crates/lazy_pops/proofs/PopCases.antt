@@ -38,13 +38,13 @@ pub pop-first : (sys : List Equation) (e : ℕ) (es : List ℕ) (s : State) → 
 unfolding pop
 pop-first sys e es s h =
     subst (λ (l : List ℕ).
-      _≡_ {A = Result State} (elim l [ [] ↦ elim (s .variables) [ [] ↦ ok s | v ∷ vs ↦ ok (popVariable sys v vs s) ] | e ∷ es ↦ popEquation sys e es s ]) (popEquation sys e es s))
+    _≡_ {A = Result State} (elim l [ [] ↦ elim (s .variables) [ [] ↦ ok s | v ∷ vs ↦ ok (popVariable sys v vs s) ] | e ∷ es ↦ popEquation sys e es s ]) (popEquation sys e es s))
     (sym h) refl
 
 pub pop-then : (sys : List Equation) (v : ℕ) (vs : List ℕ) (s : State) → s .equations ≡ [] → s .variables ≡ v ∷ vs → pop sys s ≡ ok (popVariable sys v vs s)
 unfolding pop
 pop-then sys v vs s h g =
     subst (λ (l : List ℕ).
-      _≡_ {A = Result State} (elim l [ [] ↦ elim (s .variables) [ [] ↦ ok s | v ∷ vs ↦ ok (popVariable sys v vs s) ] | e ∷ es ↦ popEquation sys e es s ]) (ok (popVariable sys v vs s)))
+    _≡_ {A = Result State} (elim l [ [] ↦ elim (s .variables) [ [] ↦ ok s | v ∷ vs ↦ ok (popVariable sys v vs s) ] | e ∷ es ↦ popEquation sys e es s ]) (ok (popVariable sys v vs s)))
     (sym h)
     (subst (λ (k : List ℕ). _≡_ {A = Result State} (elim k [ [] ↦ ok s | v ∷ vs ↦ ok (popVariable sys v vs s) ]) (ok (popVariable sys v vs s))) (sym g) refl)

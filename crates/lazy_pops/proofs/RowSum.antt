@@ -106,7 +106,7 @@ module _ {n m : ℕ} {layout : Layout} {sys : List Equation} {s : State} {lens s
       ap (λ (o : ℕ). stretch o n numbers) (sym (a .rows .scratch-place))
       ∙ read-part (segmented d) 13 (layout .dense) (dense-place d) (m * n) n (rw (size d 13) (omega arith))
       ∙ stretch-at (m * n) n (padded (length sys * n) (laid n vs)) (replicate n 0) (padded (length sys) (lengths (s .dense)))
-        (length-padded (length sys * n) (laid n vs) o ∙ ap (λ (k : ℕ). k * n) (sym (d .many))) (length-replicate {A = ℕ} n 0)
+      (length-padded (length sys * n) (laid n vs) o ∙ ap (λ (k : ℕ). k * n) (sym (d .many))) (length-replicate {A = ℕ} n 0)
 
   pub add-fits : AddFits numbers n (f * n) (getD numbers (lens + f) 0) (e * n) (getD numbers (lens + e) 0) scratch
   add-fits =
@@ -134,7 +134,7 @@ module _ {n m : ℕ} {layout : Layout} {sys : List Equation} {s : State} {lens s
 
   module _ {len : ℕ} {numbers₁ : List ℕ}
       (q : (len ≡ length (symDiff (stretch (f * n) (getD numbers (lens + f) 0) numbers) (stretch (e * n) (getD numbers (lens + e) 0) numbers)))
-        × (numbers₁ ≡ put (f * n) (padded n (symDiff (stretch (f * n) (getD numbers (lens + f) 0) numbers) (stretch (e * n) (getD numbers (lens + e) 0) numbers))) numbers)) where
+      × (numbers₁ ≡ put (f * n) (padded n (symDiff (stretch (f * n) (getD numbers (lens + f) 0) numbers) (stretch (e * n) (getD numbers (lens + e) 0) numbers))) numbers)) where
     len-is : len ≡ length (total .vars)
     len-is = q .0 ∙ ap₂ (λ (x y : List ℕ). length (symDiff x y)) (vars-at f (a .f-in)) (vars-at e (a .e-in))
 
@@ -168,19 +168,25 @@ module _ {n m : ℕ} {layout : Layout} {sys : List Equation} {s : State} {lens s
         let lp = length-padded n (total .vars) total-short in
         let one = write-part (segmented d) 0 0 refl (f * n) (padded n (total .vars)) (rw (size d 0) (omega arith)) in
         let one′ : Segmented n m (listed n sys) (set (segments n sys s) 0 (put (f * n) (padded n (total .vars)) (rowsOf n (s .rows)))) numbers₁ =
-            rw numbers-are (rw zero-add at one) in
+        rw numbers-are (rw zero-add at one) in
         let two = write-cell one′ 1 lens (lengths-after) f len (rw (size d 1) (a .f-in)) in
         record {
           laid = relaid d (addOne f e s) two
-            (ap₂ (λ (x y : List ℕ). set (set (segments n sys s) 0 x) 1 y) rows-written
+              (ap₂ (λ (x y : List ℕ). set (set (segments n sys s) 0 x) 1 y) rows-written
               (ap (λ (k : ℕ). set (lengths (s .rows)) f k) len-is ∙ sym (map-set (λ (r : Equation). length (r .vars)) (s .rows) f total)))
-            (record {
-              rows = length-set (s .rows) f total ∙ z .rows;
-              narrow = subst (λ (l : List (List ℕ)). Narrow n l) (sym (map-set varsOf (s .rows) f total))
-                  (narrow-set n f (total .vars) (map varsOf (s .rows)) total-short (z .narrow));
-              weight = z .weight; variables = z .variables; idle = z .idle; priority = z .priority; equations = z .equations; solved = z .solved;
-              dense = z .dense; dense-narrow = z .dense-narrow;
-            });
+              (record {
+                rows = length-set (s .rows) f total ∙ z .rows;
+                narrow = subst (λ (l : List (List ℕ)). Narrow n l) (sym (map-set varsOf (s .rows) f total))
+                    (narrow-set n f (total .vars) (map varsOf (s .rows)) total-short (z .narrow));
+                weight = z .weight;
+                variables = z .variables;
+                idle = z .idle;
+                priority = z .priority;
+                equations = z .equations;
+                solved = z .solved;
+                dense = z .dense;
+                dense-narrow = z .dense-narrow;
+              });
           words-are = words-written;
           rising = each-set (λ (r : Equation). Rising 0 n (r .vars)) (s .rows) f total total-rising (a .rows .rising);
         }
@@ -191,5 +197,5 @@ module _ {n m : ℕ} {layout : Layout} {sys : List Equation} {s : State} {lens s
             let lp = length-padded n (total .vars) total-short in
             let r = size d 0 in
             offset-set 1 0 (put (f * n) (padded n (total .vars)) (rowsOf n (s .rows))) (segments n sys s)
-              (length-put (f * n) (padded n (total .vars)) (rowsOf n (s .rows)) (omega arith))
+            (length-put (f * n) (padded n (total .vars)) (rowsOf n (s .rows)) (omega arith))
             ∙ lengths-place d ∙ a .rows .place

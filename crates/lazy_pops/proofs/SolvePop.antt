@@ -150,16 +150,34 @@ module _ {n m : ℕ} {layout : Layout} {sys : List Equation} {s : State} {e : �
     pub solve-done : {numbers₂ words₂ : List ℕ} {top′ : ℕ} {numbers₃ : List ℕ} → AddDone n m layout sys (addTo (others sys v e) e marked-solved) numbers₂ words₂
         → LowerDone n m layout sys (addTo (others sys v e) e marked-solved) v e top′ numbers₃
         → SolveDone n m layout sys (solveFor sys (pivotOf s e) e es s) (record {
-          variables = stand .variables; equations = top′; solved = stand .solved + 1; dense = stand .dense; remaining = stand .remaining; done = stand .done;
+          variables = stand .variables;
+          equations = top′;
+          solved = stand .solved + 1;
+          dense = stand .dense;
+          remaining = stand .remaining;
+          done = stand .done;
         }) numbers₃ words₂
     unfolding lower addTo weightless recorded passOver standOf others solveFor wordsOf
     solve-done {numbers₂} {words₂} {top′} {numbers₃} b l =
         subst (λ (u : ℕ). SolveDone n m layout sys (solveFor sys u e es s) (record {
-          variables = stand .variables; equations = top′; solved = stand .solved + 1; dense = stand .dense; remaining = stand .remaining; done = stand .done;
+          variables = stand .variables;
+          equations = top′;
+          solved = stand .solved + 1;
+          dense = stand .dense;
+          remaining = stand .remaining;
+          done = stand .done;
         }) numbers₃ words₂) v-is
         (record {
-          shows = record { laid = l .laid; counted = rw (a .shows .counted) (ap₂ (λ (x y : ℕ). record {
-            variables = length (s .variables); equations = x; solved = y; dense = length (s .dense); remaining = pred (s .remaining); done = s .denseDone;
-          }) (l .top-is) (sym (length-append (s .solved) (record { equation = e; pivot = v } ∷ [])))) };
+          shows = record {
+            laid = l .laid;
+            counted = rw (a .shows .counted) (ap₂ (λ (x y : ℕ). record {
+              variables = length (s .variables);
+              equations = x;
+              solved = y;
+              dense = length (s .dense);
+              remaining = pred (s .remaining);
+              done = s .denseDone;
+            }) (l .top-is) (sym (length-append (s .solved) (record { equation = e; pivot = v } ∷ []))));
+          };
           words-are = b .words-are;
         })

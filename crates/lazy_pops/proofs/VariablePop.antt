@@ -79,14 +79,27 @@ module _ {n m : ℕ} {layout : Layout} {sys : List Equation} {s : State} {v : �
 
   pub skipped : getD (set numbers last 0) (layout .weight + getD numbers last 0) 0 ≡ 0
       → Shows n m layout sys (popVariable sys v vs s) (record {
-        variables = stand .variables - 1; equations = stand .equations; solved = stand .solved; dense = stand .dense; remaining = stand .remaining; done = stand .done;
+        variables = stand .variables - 1;
+        equations = stand .equations;
+        solved = stand .solved;
+        dense = stand .dense;
+        remaining = stand .remaining;
+        done = stand .done;
       }) (set numbers last 0)
   unfolding popVariable skip standOf
   skipped z =
       let e : popVariable sys v vs s ≡ skip vs s = skip-weighs (getD (s .weight) v 0) (skip vs s) (activate sys v vs s) (sym weight-is ∙ z) in
-      rw e (record { laid = popped; counted = rw (a .popping .shows .counted) (ap (λ (x : ℕ). record {
-        variables = x; equations = length (s .equations); solved = length (s .solved); dense = length (s .dense); remaining = s .remaining; done = s .denseDone;
-      }) (omega (arith, ap (λ (l : List ℕ). length l) (a .next)))) })
+      rw e (record {
+        laid = popped;
+        counted = rw (a .popping .shows .counted) (ap (λ (x : ℕ). record {
+          variables = x;
+          equations = length (s .equations);
+          solved = length (s .solved);
+          dense = length (s .dense);
+          remaining = s .remaining;
+          done = s .denseDone;
+        }) (omega (arith, ap (λ (l : List ℕ). length l) (a .next))));
+      })
 
   module _ (z : getD (set numbers last 0) (layout .weight + getD numbers last 0) 0 ≢ 0) where
     heavy : getD (s .weight) v 0 ≢ 0
@@ -117,7 +130,12 @@ module _ {n m : ℕ} {layout : Layout} {sys : List Equation} {s : State} {v : �
 
     pub became-active : {top′ : ℕ} {numbers′ : List ℕ} → LowerDone n m layout sys (activated v (skip vs s)) (getD numbers last 0) m top′ numbers′
         → Shows n m layout sys (popVariable sys v vs s) (record {
-          variables = stand .variables - 1; equations = top′; solved = stand .solved; dense = stand .dense; remaining = stand .remaining; done = stand .done;
+          variables = stand .variables - 1;
+          equations = top′;
+          solved = stand .solved;
+          dense = stand .dense;
+          remaining = stand .remaining;
+          done = stand .done;
         }) numbers′
     unfolding popVariable activated skip activate lower standOf
     became-active {top′} {numbers′} q =
@@ -125,6 +143,14 @@ module _ {n m : ℕ} {layout : Layout} {sys : List Equation} {s : State} {v : �
         let b : but m (listing sys (getD numbers last 0)) ≡ listing sys v = rw v-is (but-past sys v m (d .many)) in
         let l : Laid n m layout sys (activate sys v vs s) numbers′ = rw b at (q .laid) in
         let t : top′ ≡ length (pushed (listing sys v) (s .priority) (s .equations)) = rw b at (q .top-is) in
-        rw e (record { laid = l; counted = rw (a .popping .shows .counted) (ap₂ (λ (x y : ℕ). record {
-          variables = x; equations = y; solved = length (s .solved); dense = length (s .dense); remaining = s .remaining; done = s .denseDone;
-        }) (omega (arith, ap (λ (l : List ℕ). length l) (a .next))) t) })
+        rw e (record {
+          laid = l;
+          counted = rw (a .popping .shows .counted) (ap₂ (λ (x y : ℕ). record {
+            variables = x;
+            equations = y;
+            solved = length (s .solved);
+            dense = length (s .dense);
+            remaining = s .remaining;
+            done = s .denseDone;
+          }) (omega (arith, ap (λ (l : List ℕ). length l) (a .next))) t);
+        })

@@ -44,8 +44,16 @@ module _ {n m : ℕ} {layout : Layout} {sys : List Equation} {s : State} {number
       relaid (activated v s) (write-cell (segmented d) 6 (layout .idle) (idle-place d) v 0 (rw (size d 6) h))
       (ap (λ (l : List ℕ). set (segments n sys s) 6 l) (sym (map-set mark (s .idle) v false)))
       (record {
-        rows = z .rows; narrow = z .narrow; weight = z .weight; variables = z .variables; idle = length-set (s .idle) v false ∙ z .idle; priority = z .priority;
-        equations = z .equations; solved = z .solved; dense = z .dense; dense-narrow = z .dense-narrow;
+        rows = z .rows;
+        narrow = z .narrow;
+        weight = z .weight;
+        variables = z .variables;
+        idle = length-set (s .idle) v false ∙ z .idle;
+        priority = z .priority;
+        equations = z .equations;
+        solved = z .solved;
+        dense = z .dense;
+        dense-narrow = z .dense-narrow;
       })
 
   pub write-weight : (v : ℕ) → v < n → Laid n m layout sys (weightless v s) (set numbers (layout .weight + v) 0)
@@ -54,8 +62,16 @@ module _ {n m : ℕ} {layout : Layout} {sys : List Equation} {s : State} {number
       let z = d .sized in
       relaid (weightless v s) (write-cell (segmented d) 4 (layout .weight) (weight-place d) v 0 (rw (size d 4) h)) refl
       (record {
-        rows = z .rows; narrow = z .narrow; weight = length-set (s .weight) v 0 ∙ z .weight; variables = z .variables; idle = z .idle; priority = z .priority;
-        equations = z .equations; solved = z .solved; dense = z .dense; dense-narrow = z .dense-narrow;
+        rows = z .rows;
+        narrow = z .narrow;
+        weight = length-set (s .weight) v 0 ∙ z .weight;
+        variables = z .variables;
+        idle = z .idle;
+        priority = z .priority;
+        equations = z .equations;
+        solved = z .solved;
+        dense = z .dense;
+        dense-narrow = z .dense-narrow;
       })
 
   -- the popped cell is zero
@@ -65,10 +81,18 @@ module _ {n m : ℕ} {layout : Layout} {sys : List Equation} {s : State} {number
       let z = d .sized in let l = z .variables in let q′ = ap (λ (l : List ℕ). length l) q in
       relaid (skip vs s) (write-cell (segmented d) 5 (layout .variables) (variables-place d) (length vs) 0 (rw (size d 5) (omega arith)))
       (ap (λ (l : List ℕ). set (segments n sys s) 5 l)
-        (ap (λ (l : List ℕ). set (padded n (reverse l)) (length vs) 0) q ∙ pop-padded n v vs (omega arith)))
+      (ap (λ (l : List ℕ). set (padded n (reverse l)) (length vs) 0) q ∙ pop-padded n v vs (omega arith)))
       (record {
-        rows = z .rows; narrow = z .narrow; weight = z .weight; variables = omega arith; idle = z .idle; priority = z .priority;
-        equations = z .equations; solved = z .solved; dense = z .dense; dense-narrow = z .dense-narrow;
+        rows = z .rows;
+        narrow = z .narrow;
+        weight = z .weight;
+        variables = omega arith;
+        idle = z .idle;
+        priority = z .priority;
+        equations = z .equations;
+        solved = z .solved;
+        dense = z .dense;
+        dense-narrow = z .dense-narrow;
       })
 
   pub pop-equation : (e : ℕ) (es : List ℕ) → s .equations ≡ e ∷ es → Laid n m layout sys (passOver es s) (set numbers (layout .equations + length es) 0)
@@ -77,10 +101,18 @@ module _ {n m : ℕ} {layout : Layout} {sys : List Equation} {s : State} {number
       let z = d .sized in let l = z .equations in let q′ = ap (λ (l : List ℕ). length l) q in
       relaid (passOver es s) (write-cell (segmented d) 9 (layout .equations) (equations-place d) (length es) 0 (rw (size d 9) (omega (arith, d .many))))
       (ap (λ (l : List ℕ). set (segments n sys s) 9 l)
-        (ap (λ (l : List ℕ). set (padded (length sys) (reverse l)) (length es) 0) q ∙ pop-padded (length sys) e es (omega arith)))
+      (ap (λ (l : List ℕ). set (padded (length sys) (reverse l)) (length es) 0) q ∙ pop-padded (length sys) e es (omega arith)))
       (record {
-        rows = z .rows; narrow = z .narrow; weight = z .weight; variables = z .variables; idle = z .idle; priority = z .priority;
-        equations = omega arith; solved = z .solved; dense = z .dense; dense-narrow = z .dense-narrow;
+        rows = z .rows;
+        narrow = z .narrow;
+        weight = z .weight;
+        variables = z .variables;
+        idle = z .idle;
+        priority = z .priority;
+        equations = omega arith;
+        solved = z .solved;
+        dense = z .dense;
+        dense-narrow = z .dense-narrow;
       })
 
   pub write-lowered : (es : List ℕ) → length (pushed es (s .priority) (s .equations)) ≤ m
@@ -97,10 +129,18 @@ module _ {n m : ℕ} {layout : Layout} {sys : List Equation} {s : State} {number
       rw (add-zero, add-zero) at
       (relaid (lower es s) two
       (ap₂ (λ (x y : List ℕ). set (set (segments n sys s) 9 x) 8 y)
-        (over-padded (length sys) (reverse top) (reverse (s .equations)) (omega arith) (omega (arith, d .many))) (put-all (lowered es (s .priority)) (s .priority) p))
+      (over-padded (length sys) (reverse top) (reverse (s .equations)) (omega arith) (omega (arith, d .many))) (put-all (lowered es (s .priority)) (s .priority) p))
       (record {
-        rows = z .rows; narrow = z .narrow; weight = z .weight; variables = z .variables; idle = z .idle; priority = p ∙ z .priority;
-        equations = rw (← (d .many)) room; solved = z .solved; dense = z .dense; dense-narrow = z .dense-narrow;
+        rows = z .rows;
+        narrow = z .narrow;
+        weight = z .weight;
+        variables = z .variables;
+        idle = z .idle;
+        priority = p ∙ z .priority;
+        equations = rw (← (d .many)) room;
+        solved = z .solved;
+        dense = z .dense;
+        dense-narrow = z .dense-narrow;
       }))
 
   pub write-solved : (e v : ℕ) → length (s .solved) < m
@@ -115,10 +155,18 @@ module _ {n m : ℕ} {layout : Layout} {sys : List Equation} {s : State} {number
       let two = write-cell one 11 (layout .pivots) (pivots-place-after e k) k v (rw (size d 11) h) in
       relaid (recorded e v s) two
       (ap₂ (λ (x y : List ℕ). set (set (segments n sys s) 10 x) 11 y)
-        (more (λ (x : Solved). x .equation) e refl) (more (λ (x : Solved). x .pivot) v refl))
+      (more (λ (x : Solved). x .equation) e refl) (more (λ (x : Solved). x .pivot) v refl))
       (record {
-        rows = z .rows; narrow = z .narrow; weight = z .weight; variables = z .variables; idle = z .idle; priority = z .priority;
-        equations = z .equations; solved = rw (length-append (s .solved) (record { equation = e; pivot = v } ∷ [])) (omega (arith, d .many)); dense = z .dense; dense-narrow = z .dense-narrow;
+        rows = z .rows;
+        narrow = z .narrow;
+        weight = z .weight;
+        variables = z .variables;
+        idle = z .idle;
+        priority = z .priority;
+        equations = z .equations;
+        solved = rw (length-append (s .solved) (record { equation = e; pivot = v } ∷ [])) (omega (arith, d .many));
+        dense = z .dense;
+        dense-narrow = z .dense-narrow;
       })
     where
       pivots-place-after : (e k : ℕ) → offset 11 (set (segments n sys s) 10 (set (getD (segments n sys s) 10 []) k e)) ≡ layout .pivots

@@ -76,3 +76,14 @@ pub record SolveReady (n m : ℕ) (layout : Layout) (stand : Stand) (e : ℕ) (n
 pub record SolveDone (n m : ℕ) (layout : Layout) (sys : List Equation) (s′ : State) (stand′ : Stand) (numbers′ words′ : List ℕ) : Type 0 where
   pub shows : Shows n m layout sys s′ stand′ numbers′
   pub words-are : words′ ≡ wordsOf sys s′
+
+-- a pop can be made
+pub record PopAt (n m : ℕ) (layout : Layout) (sys : List Equation) (s : State) (stand : Stand) (numbers words : List ℕ) : Type 0 where
+  pub popping : Popping n m layout sys s stand numbers
+  pub words-are : words ≡ wordsOf sys s
+  pub small : n ≤ maxVariables
+
+pub record PopReady (n m : ℕ) (layout : Layout) (stand : Stand) (numbers words : List ℕ) : Type 0 where
+  pub sys : List Equation
+  pub s : State
+  pub at : PopAt n m layout sys s stand numbers words

@@ -1,7 +1,7 @@
 // Equations of priority 1: solved for their one idle variable.
 use crate::variables::lower_listed;
-use lazy_setup::{Layout, Stand};
-
+use lazy_setup::Layout;
+use lazy_setup::Stand;
 ghost use mathlib.Core.Path.{_≡_};
 ghost use mathlib.Core.List.{List};
 ghost use Prim.Native.Nat.{ℕ};
@@ -31,7 +31,15 @@ fn first_idle(numbers: &[u32], row: usize, count: usize, idle: usize) -> u32
 }
 
 // Equation e is added into equation f.
-fn add_row(numbers: &mut [u32], words: &mut [u64], n: usize, lengths: usize, scratch: usize, f: usize, e: usize)
+fn add_row(
+    numbers: &mut [u32],
+    words: &mut [u64],
+    n: usize,
+    lengths: usize,
+    scratch: usize,
+    f: usize,
+    e: usize,
+)
     requires { ⌜ AddReady n lengths scratch f e (now numbers) (now words) ⌝ }
     ensures { λ _. ⌜ ((m : ℕ) (layout : Layout) (sys : List Equation) (s : State) → AddAt n m layout sys s lengths scratch f e (now (numbers .entry)) (now (words .entry)) → AddDone n m layout sys (addOne f e s) (now (numbers .exit)) (now (words .exit))) ⌝ }
 {
@@ -43,7 +51,16 @@ fn add_row(numbers: &mut [u32], words: &mut [u64], n: usize, lengths: usize, scr
 }
 
 // Equation e is added into each of the `count` equations from `list` on, but for itself.
-fn add_listed(numbers: &mut [u32], words: &mut [u64], n: usize, lengths: usize, scratch: usize, list: usize, count: usize, e: usize)
+fn add_listed(
+    numbers: &mut [u32],
+    words: &mut [u64],
+    n: usize,
+    lengths: usize,
+    scratch: usize,
+    list: usize,
+    count: usize,
+    e: usize,
+)
     requires { ⌜ AddsReady n lengths scratch list count e (now numbers) (now words) ⌝ }
     ensures { λ _. ⌜ ((m : ℕ) (layout : Layout) (sys : List Equation) (s : State) (v : ℕ) → AddsAt n m layout sys s v lengths scratch list count e (now (numbers .entry)) (now (words .entry)) → AddDone n m layout sys (addTo (others sys v e) e s) (now (numbers .exit)) (now (words .exit))) ⌝ }
 {
@@ -58,14 +75,31 @@ fn add_listed(numbers: &mut [u32], words: &mut [u64], n: usize, lengths: usize, 
 }
 
 // Equation e is added into the other equations that listed v at the start, in equation order.
-fn add_to_others(numbers: &mut [u32], words: &mut [u64], layout: Layout, n: usize, m: usize, v: usize, e: usize)
+fn add_to_others(
+    numbers: &mut [u32],
+    words: &mut [u64],
+    layout: Layout,
+    n: usize,
+    m: usize,
+    v: usize,
+    e: usize,
+)
     requires { ⌜ OthersReady n m layout v e (now numbers) (now words) ⌝ }
     ensures { λ _. ⌜ ((sys : List Equation) (s : State) → OthersAt n m layout sys s v e (now (numbers .entry)) (now (words .entry)) → AddDone n m layout sys (addTo (others sys v e) e s) (now (numbers .exit)) (now (words .exit))) ⌝ }
 {
     let first = layout.starts + v;
     let from = numbers[first] as usize;
     let to = numbers[first + 1] as usize;
-    add_listed(numbers, words, n, layout.lengths, layout.dense + m * n, layout.lists + from, to - from, e);
+    add_listed(
+        numbers,
+        words,
+        n,
+        layout.lengths,
+        layout.dense + m * n,
+        layout.lists + from,
+        to - from,
+        e,
+    );
 }
 
 // Equation e, the k-th that is solved, has solved v: both are recorded, and the weight of v is 0 from here on.
@@ -82,7 +116,15 @@ fn record_solved(numbers: &mut [u32], layout: Layout, k: usize, e: u32, v: u32)
 }
 
 // Equation e was popped, and its priority is 1: it solves its one idle variable.
-pub fn solve_for(numbers: &mut [u32], words: &mut [u64], layout: Layout, n: usize, m: usize, stand: Stand, e: u32) -> Stand
+pub fn solve_for(
+    numbers: &mut [u32],
+    words: &mut [u64],
+    layout: Layout,
+    n: usize,
+    m: usize,
+    stand: Stand,
+    e: u32,
+) -> Stand
     requires { ⌜ SolveReady n m layout stand e (now numbers) (now words) ⌝ }
     ensures { λ r. ⌜ ((sys : List Equation) (s : State) (es : List ℕ) → EquationAt n m layout sys s e es 1 stand (now (numbers .entry)) (now (words .entry)) → SolveDone n m layout sys (solveFor sys (pivotOf s e) e es s) r (now (numbers .exit)) (now (words .exit))) ⌝ }
 {

@@ -1,88 +1,64 @@
 use lib.ListN.{length-set}
 use mathlib.Core.Logic.{inl}
-use Rattle.areas.proofs.Offsets.{row-before}
 use Rattle.lazy_pops.proofs.DenseWriting.{copy-cells, copy-done}
 use native.Mathlib.Omega.{arith}
-use borrow.Author.Needs.{needs}
 use Rattle.lazy_pops.proofs.dense.copy_dense.Statement.{statement}
 use Rattle.lazy_pops.proofs.dense.copy_dense.Tie as tie
-use Rattle.lazy_pops.proofs.dense.copy_dense.Reads as reads
-use Rattle.lazy_pops.proofs.dense.copy_dense.Lts as lts
-use Rattle.areas.proofs.copy.copy_within_numbers.Reads as copy-within-numbers-reads
 
--- src/dense.rt:18:47
 mul-copy-within-numbers : tie.Need-mul-copy-within-numbers
 mul-copy-within-numbers c = let b = copy-cells (c .before .before .before .pre .at) in omega arith
 
--- src/dense.rt:18:67
 mul-copy-within-numbers-2 : tie.Need-mul-copy-within-numbers-2
 mul-copy-within-numbers-2 c = let b = copy-cells (c .before .before .before .pre .at) in omega arith
 
--- src/dense.rt:18:59
 add-copy-within-numbers : tie.Need-add-copy-within-numbers
 add-copy-within-numbers c = let b = copy-cells (c .before .before .before .pre .at) in omega arith
 
--- src/dense.rt:18:5
 copy-within-numbers-requires : tie.Need-copy-within-numbers-requires
 copy-within-numbers-requires c κs = let b = copy-cells (c .before .before .before .pre .at) in (omega arith, omega arith, inl (omega arith))
 
--- src/dense.rt:19:42
 cast-numbers : tie.Need-cast-numbers
 cast-numbers c = let b = copy-cells (c .before .before .before .before .before .before .pre .at) in omega arith
 
--- src/dense.rt:19:22
 mul-numbers : tie.Need-mul-numbers
 mul-numbers c = let b = copy-cells (c .before .before .before .before .before .before .pre .at) in omega arith
 
--- src/dense.rt:19:31
 add-numbers : tie.Need-add-numbers
 add-numbers c = let b = copy-cells (c .before .before .before .before .before .before .pre .at) in omega arith
 
--- src/dense.rt:19:22
 add-numbers-2 : tie.Need-add-numbers-2
 add-numbers-2 c = let b = copy-cells (c .before .before .before .before .before .before .pre .at) in omega arith
 
--- src/dense.rt:19:13
 add-numbers-3 : tie.Need-add-numbers-3
 add-numbers-3 c = let b = copy-cells (c .before .before .before .before .before .before .pre .at) in omega arith
 
--- src/dense.rt:19:5
 mul-numbers-2 : tie.Need-mul-numbers-2
 mul-numbers-2 c = let b = copy-cells (c .before .before .before .before .before .before .pre .at) in omega arith
 
--- src/dense.rt:19:5
 slice-write-numbers : tie.Need-slice-write-numbers
 slice-write-numbers c = let b = copy-cells (c .before .before .before .before .before .before .pre .at) in let g = c .before .numbers .given in omega arith
 
--- src/dense.rt:20:20
 mul-words : tie.Need-mul-words
 mul-words c = let b = copy-cells (c .before .before .before .before .before .before .pre .at) in omega arith
 
--- src/dense.rt:20:20
 slice-read-words : tie.Need-slice-read-words
 slice-read-words c = let b = copy-cells (c .before .before .before .before .before .before .before .pre .at) in omega arith
 
--- src/dense.rt:20:11
 add-words : tie.Need-add-words
 add-words c = let b = copy-cells (c .before .before .before .before .before .before .before .pre .at) in omega arith
 
--- src/dense.rt:20:5
 mul-words-2 : tie.Need-mul-words-2
 mul-words-2 c = let b = copy-cells (c .before .before .before .before .before .before .before .pre .at) in omega arith
 
--- src/dense.rt:20:5
 slice-write-words : tie.Need-slice-write-words
 slice-write-words c = let b = copy-cells (c .before .before .before .before .before .before .before .pre .at) in omega arith
 
--- src/dense.rt:14:1
 same-length : tie.Need-same-length
 same-length c = simp length-set (c .before .before .numbers .given)
 
--- src/dense.rt:14:1
 same-length-2 : tie.Need-same-length-2
 same-length-2 c = simp length-set
 
--- src/dense.rt:14:1
 returns : tie.Need-returns
 returns c = λ layout sys s a. rw (c .before .before .before .copy-within-numbers .ensures) (copy-done a)
 

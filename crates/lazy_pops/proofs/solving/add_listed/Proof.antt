@@ -7,14 +7,11 @@ use Rattle.gf2.specs.Equation.{Equation}
 use Rattle.lazy.specs.Lazy.{State}
 use Rattle.lazy_setup.specs.declared.Layout.{Layout}
 use Rattle.lazy_pops.specs.Adding.{AddsAt}
-use Rattle.lazy_pops.proofs.AddTurns.{Adding, adding-begin, list-in, f-low, adding-skip, adding-fits, adding-turn, adding-end}
+use Rattle.lazy_pops.proofs.AddTurns.{Adding, adding-begin, list-in, adding-skip, adding-fits, adding-turn, adding-end}
 use borrow.Author.Needs.{needs}
 use native.Mathlib.Omega.{arith}
 use Rattle.lazy_pops.proofs.solving.add_listed.Statement.{statement}
 use Rattle.lazy_pops.proofs.solving.add_listed.Tie as tie
-use Rattle.lazy_pops.proofs.solving.add_listed.Reads as reads
-use Rattle.lazy_pops.proofs.solving.add_listed.Lts as lts
-use Rattle.lazy_pops.proofs.solving.add_row.Reads as add-row-reads
 
 abbrev Inv-loop : tie.InvT-loop
 Inv-loop numbers₀ words₀ n lengths scratch list count e k₀ numbers words k =
@@ -25,58 +22,43 @@ Inv-loop numbers₀ words₀ n lengths scratch list count e k₀ numbers words k
 abbrev μ-loop : tie.MeasureT-loop
 μ-loop numbers₀ words₀ n lengths scratch list count e k₀ numbers words k = count - k
 
--- src/solving.rt:47:5
 loop-holds : tie.Need-loop-holds Inv-loop μ-loop
 loop-holds c = (refl, refl, λ m layout sys s v a. adding-begin a)
 
--- src/solving.rt:48:25
 add-f : tie.Need-add-f Inv-loop μ-loop
 add-f c = let b = list-in (c .before .loop .inv .2 _ _ _ _ _ (c .before .before .before .before .pre .at)) in omega arith
 
--- src/solving.rt:48:17
 mul-f : tie.Need-mul-f Inv-loop μ-loop
 mul-f c = let b = list-in (c .before .loop .inv .2 _ _ _ _ _ (c .before .before .before .before .pre .at)) in omega arith
 
--- src/solving.rt:48:17
 slice-read-f : tie.Need-slice-read-f Inv-loop μ-loop
 slice-read-f c = let b = list-in (c .before .before .loop .inv .2 _ _ _ _ _ (c .before .before .before .before .before .pre .at)) in omega arith
 
--- src/solving.rt:48:17
 cast-f : tie.Need-cast-f Inv-loop μ-loop
 cast-f c = omega (arith, c .slice-known3 .given (c .before .before .before .before .before .args .list + c .before .before .loop .k))
 
--- src/solving.rt:50:13
 add-row-requires : tie.Need-add-row-requires Inv-loop μ-loop
 add-row-requires c κs = record { m = c .before .before .before .before .before .before .before .before .pre .m; layout = c .before .before .before .before .before .before .before .before .pre .layout; sys = c .before .before .before .before .before .before .before .before .pre .sys; s = _; at = adding-fits (c .before .before .before .before .before .loop .inv .2 _ _ _ _ _ (c .before .before .before .before .before .before .before .before .pre .at)) (c .before .before .before .before .loop-test .taken) }
 
--- src/solving.rt:52:9
-add-k : tie.Need-add-k Inv-loop μ-loop
-add-k c = search needs
-
--- src/solving.rt:47:5
-loop-less : tie.Need-loop-less Inv-loop μ-loop
-loop-less c = search needs
-
--- src/solving.rt:47:5
 loop-again : tie.Need-loop-again Inv-loop μ-loop
 loop-again c =
     let i = c .before .before .before .loop .inv in
     let h = c .before .before .loop-test .taken in
     ⊎-elim
-      (λ w. rw (w .8, w .9) (w .4 .given ∙ i .0, w .6 .given ∙ i .1,
-        λ m layout sys s v a. adding-turn (i .2 m layout sys s v a) h (w .0 .taken) (w .3 .ensures m layout sys _ (adding-fits (i .2 m layout sys s v a) h))))
-      (λ w. rw (w .1, w .2) (i .0, i .1, λ m layout sys s v a. adding-skip (i .2 m layout sys s v a) h (w .0 .left)))
-      (c .if1 .came)
+    (λ w. rw (w .8, w .9) (
+      w .4 .given ∙ i .0,
+      w .6 .given ∙ i .1,
+      λ m layout sys s v a. adding-turn (i .2 m layout sys s v a) h (w .0 .taken) (w .3 .ensures m layout sys _ (adding-fits (i .2 m layout sys s v a) h)),
+    ))
+    (λ w. rw (w .1, w .2) (i .0, i .1, λ m layout sys s v a. adding-skip (i .2 m layout sys s v a) h (w .0 .left)))
+    (c .if1 .came)
 
--- src/solving.rt:42:1
 same-length : tie.Need-same-length Inv-loop μ-loop
 same-length c = c .before .loop .inv .0
 
--- src/solving.rt:42:1
 same-length-2 : tie.Need-same-length-2 Inv-loop μ-loop
 same-length-2 c = c .before .loop .inv .1
 
--- src/solving.rt:42:1
 returns : tie.Need-returns Inv-loop μ-loop
 returns c = λ m layout sys s v a. adding-end (c .before .loop .inv .2 m layout sys s v a) (c .loop-test .left)
 
@@ -92,8 +74,8 @@ add-listed-spec =
     slice-read-f
     cast-f
     add-row-requires
-    add-k
-    loop-less
+    (λ c. search needs)  -- add-k
+    (λ c. search needs)  -- loop-less
     loop-again
     same-length
     same-length-2

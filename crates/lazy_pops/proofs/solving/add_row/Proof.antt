@@ -1,106 +1,78 @@
 use lib.ListN.{length-set}
 use Rattle.lazy_pops.proofs.RowSum.{add-cells, add-fits, len-short, add-done}
 use native.Mathlib.Omega.{arith}
-use borrow.Author.Needs.{needs}
 use Rattle.lazy_pops.proofs.solving.add_row.Statement.{statement}
 use Rattle.lazy_pops.proofs.solving.add_row.Tie as tie
-use Rattle.lazy_pops.proofs.solving.add_row.Reads as reads
-use Rattle.lazy_pops.proofs.solving.add_row.Lts as lts
-use Rattle.equation.proofs.rows.add_into.Reads as add-into-reads
 
--- src/solving.rt:34:22
 add-lf : tie.Need-add-lf
 add-lf c = let b = add-cells (c .before .before .pre .at) in omega arith
 
--- src/solving.rt:34:14
 mul-lf : tie.Need-mul-lf
 mul-lf c = let b = add-cells (c .before .before .pre .at) in omega arith
 
--- src/solving.rt:34:14
 slice-read-lf : tie.Need-slice-read-lf
 slice-read-lf c = let b = add-cells (c .before .before .before .pre .at) in omega arith
 
--- src/solving.rt:34:14
 cast-lf : tie.Need-cast-lf
 cast-lf c = let b = add-cells (c .before .before .before .pre .at) in omega arith
 
--- src/solving.rt:35:22
 add-le : tie.Need-add-le
 add-le c = let b = add-cells (c .before .before .before .pre .at) in omega arith
 
--- src/solving.rt:35:14
 mul-le : tie.Need-mul-le
 mul-le c = let b = add-cells (c .before .before .before .pre .at) in omega arith
 
--- src/solving.rt:35:14
 slice-read-le : tie.Need-slice-read-le
 slice-read-le c = let b = add-cells (c .before .before .before .before .pre .at) in omega arith
 
--- src/solving.rt:35:14
 cast-le : tie.Need-cast-le
 cast-le c = let b = add-cells (c .before .before .before .before .pre .at) in omega arith
 
--- src/solving.rt:36:52
 mul-add-into : tie.Need-mul-add-into
 mul-add-into c = let b = add-cells (c .before .before .before .before .before .pre .at) in omega arith
 
--- src/solving.rt:36:63
 mul-add-into-2 : tie.Need-mul-add-into-2
 mul-add-into-2 c = let b = add-cells (c .before .before .before .before .before .pre .at) in omega arith
 
--- src/solving.rt:36:9
 add-into-requires : tie.Need-add-into-requires
 add-into-requires c κs = add-fits (c .before .before .before .before .before .pre .at)
 
--- src/solving.rt:37:28
 cast-numbers : tie.Need-cast-numbers
 cast-numbers c = let b = add-cells (c .before .before .before .before .before .before .before .before .pre .at) in let l = len-short (c .before .before .before .before .before .before .before .before .pre .at) (c .before .before .add-into .ensures) in omega arith
 
--- src/solving.rt:37:13
 add-numbers : tie.Need-add-numbers
 add-numbers c = let b = add-cells (c .before .before .before .before .before .before .before .before .pre .at) in omega arith
 
--- src/solving.rt:37:5
 mul-numbers : tie.Need-mul-numbers
 mul-numbers c = let b = add-cells (c .before .before .before .before .before .before .before .before .pre .at) in omega arith
 
--- src/solving.rt:37:5
 slice-write-numbers : tie.Need-slice-write-numbers
 slice-write-numbers c = let b = add-cells (c .before .before .before .before .before .before .before .before .pre .at) in let g = c .before .numbers .given in omega arith
 
--- src/solving.rt:38:16
 mul-words : tie.Need-mul-words
 mul-words c = let b = add-cells (c .before .before .before .before .before .before .before .before .pre .at) in omega arith
 
--- src/solving.rt:38:16
 slice-read-words : tie.Need-slice-read-words
 slice-read-words c = let b = add-cells (c .before .before .before .before .before .before .before .before .before .pre .at) in omega arith
 
--- src/solving.rt:38:27
 mul-words-2 : tie.Need-mul-words-2
 mul-words-2 c = let b = add-cells (c .before .before .before .before .before .before .before .before .before .pre .at) in omega arith
 
--- src/solving.rt:38:27
 slice-read-words-2 : tie.Need-slice-read-words-2
 slice-read-words-2 c = let b = add-cells (c .before .before .before .before .before .before .before .before .before .before .pre .at) in omega arith
 
--- src/solving.rt:38:5
 mul-words-3 : tie.Need-mul-words-3
 mul-words-3 c = let b = add-cells (c .before .before .before .before .before .before .before .before .before .before .pre .at) in omega arith
 
--- src/solving.rt:38:5
 slice-write-words : tie.Need-slice-write-words
 slice-write-words c = let b = add-cells (c .before .before .before .before .before .before .before .before .before .before .pre .at) in omega arith
 
--- src/solving.rt:30:1
 same-length : tie.Need-same-length
 same-length c = simp length-set (c .before .before .before .numbers .given)
 
--- src/solving.rt:30:1
 same-length-2 : tie.Need-same-length-2
 same-length-2 c = simp length-set
 
--- src/solving.rt:30:1
 returns : tie.Need-returns
 returns c = λ m layout sys s a. add-done a (c .before .before .before .before .add-into .ensures)
 

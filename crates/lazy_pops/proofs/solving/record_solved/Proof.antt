@@ -1,53 +1,39 @@
 use lib.ListN.{length-set}
 use Rattle.lazy_pops.proofs.Recording.{solved-cells, solved-done}
 use native.Mathlib.Omega.{arith}
-use borrow.Author.Needs.{needs}
 use Rattle.lazy_pops.proofs.solving.record_solved.Statement.{statement}
 use Rattle.lazy_pops.proofs.solving.record_solved.Tie as tie
-use Rattle.lazy_pops.proofs.solving.record_solved.Reads as reads
-use Rattle.lazy_pops.proofs.solving.record_solved.Lts as lts
 
--- src/solving.rt:73:18
 add-solved : tie.Need-add-solved
 add-solved c = let b = solved-cells (c .before .pre .at) in omega arith
 
--- src/solving.rt:74:5
 mul-numbers : tie.Need-mul-numbers
 mul-numbers c = let b = solved-cells (c .before .pre .at) in omega arith
 
--- src/solving.rt:74:5
 slice-write-numbers : tie.Need-slice-write-numbers
 slice-write-numbers c = let b = solved-cells (c .before .pre .at) in omega arith
 
--- src/solving.rt:75:18
 add-pivots : tie.Need-add-pivots
 add-pivots c = let b = solved-cells (c .before .before .pre .at) in omega arith
 
--- src/solving.rt:76:5
 mul-numbers-2 : tie.Need-mul-numbers-2
 mul-numbers-2 c = let b = solved-cells (c .before .before .pre .at) in omega arith
 
--- src/solving.rt:76:5
 slice-write-numbers-2 : tie.Need-slice-write-numbers-2
 slice-write-numbers-2 c = let b = solved-cells (c .before .before .pre .at) in simp length-set (omega arith)
 
--- src/solving.rt:77:18
 add-weight : tie.Need-add-weight
 add-weight c = let b = solved-cells (c .before .before .before .pre .at) in omega arith
 
--- src/solving.rt:78:5
 mul-numbers-3 : tie.Need-mul-numbers-3
 mul-numbers-3 c = let b = solved-cells (c .before .before .before .pre .at) in omega arith
 
--- src/solving.rt:78:5
 slice-write-numbers-3 : tie.Need-slice-write-numbers-3
 slice-write-numbers-3 c = let b = solved-cells (c .before .before .before .pre .at) in simp length-set (omega arith)
 
--- src/solving.rt:69:1
 same-length : tie.Need-same-length
 same-length c = simp length-set
 
--- src/solving.rt:69:1
 returns : tie.Need-returns
 returns c = λ n m sys s a. solved-done _ a
 

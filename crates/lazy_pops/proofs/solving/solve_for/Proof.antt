@@ -1,65 +1,41 @@
 use mathlib.Core.Path.{_∙_}
 use Prim.Native.Nat.{_+_}
-use Rattle.lazy_pops.proofs.SolvePop.{row-cells, row-fits, v-low, solved-at, others-at, lower-at, solve-done}
+use Rattle.lazy_pops.proofs.SolvePop.{row-cells, row-fits, solved-at, others-at, lower-at, solve-done}
 use native.Mathlib.Omega.{arith}
 use borrow.Author.Needs.{needs}
 use Rattle.lazy_pops.proofs.solving.solve_for.Statement.{statement}
 use Rattle.lazy_pops.proofs.solving.solve_for.Tie as tie
-use Rattle.lazy_pops.proofs.solving.solve_for.Reads as reads
-use Rattle.lazy_pops.proofs.solving.solve_for.Lts as lts
-use Rattle.lazy_pops.proofs.solving.add_to_others.Reads as add-to-others-reads
-use Rattle.lazy_pops.proofs.solving.first_idle.Reads as first-idle-reads
-use Rattle.lazy_pops.proofs.solving.record_solved.Reads as record-solved-reads
-use Rattle.lazy_pops.proofs.variables.lower_listed.Reads as lower-listed-reads
 
--- src/solving.rt:89:14
 add-at : tie.Need-add-at
 add-at c = let b = row-cells (c .before .before .before .pre .at) in omega arith
 
--- src/solving.rt:90:15
 mul-len : tie.Need-mul-len
 mul-len c = let b = row-cells (c .before .before .before .pre .at) in omega arith
 
--- src/solving.rt:90:15
 slice-read-len : tie.Need-slice-read-len
 slice-read-len c = let b = row-cells (c .before .before .before .before .pre .at) in omega arith
 
--- src/solving.rt:90:15
 cast-len : tie.Need-cast-len
 cast-len c = let b = row-cells (c .before .before .before .before .pre .at) in omega (arith, c .before .before .before .slice-known .given (c .before .before .before .before .args .layout .lengths + c .before .before .before .before .args .e))
 
--- src/solving.rt:91:33
 mul-first-idle : tie.Need-mul-first-idle
 mul-first-idle c = let b = row-cells (c .before .before .before .before .before .pre .at) in omega arith
 
--- src/solving.rt:91:9
 first-idle-requires : tie.Need-first-idle-requires
 first-idle-requires c κs = row-fits (c .before .before .before .before .before .pre .at)
 
--- src/solving.rt:92:5
 record-solved-requires : tie.Need-record-solved-requires
 record-solved-requires c κs = record { n = c .before .before .before .before .before .before .before .args .n; m = c .before .before .before .before .before .before .before .args .m; sys = c .before .before .before .before .before .before .before .pre .sys; s = _; at = solved-at (c .before .before .before .before .before .before .before .pre .at) (c .before .first-idle .ensures) }
 
--- src/solving.rt:93:49
-cast-add-to-others : tie.Need-cast-add-to-others
-cast-add-to-others c = search needs
-
--- src/solving.rt:93:5
 add-to-others-requires : tie.Need-add-to-others-requires
 add-to-others-requires c κs =
     let w = c .before .before .before .before .before .before .before .before .before .before .before .before .pre in
     let q = c .before .before .before .before .before .before .first-idle .ensures in
     record { sys = w .sys; s = _; at = others-at (w .at) q (c .before .before .before .before .record-solved .ensures _ _ (w .sys) _ (solved-at (w .at) q)) }
 
--- src/solving.rt:95:19
 add-next : tie.Need-add-next
 add-next c = let b = row-cells (c .before .before .before .before .before .before .before .before .before .before .before .before .before .before .before .before .before .before .pre .at) in omega arith
 
--- src/solving.rt:96:55
-cast-lower-listed : tie.Need-cast-lower-listed
-cast-lower-listed c = search needs
-
--- src/solving.rt:96:5
 lower-listed-requires : tie.Need-lower-listed-requires
 lower-listed-requires c κs =
     let w = c .before .before .before .before .before .before .before .before .before .before .before .before .before .before .before .before .before .before .before .pre in
@@ -67,15 +43,12 @@ lower-listed-requires c κs =
     let o = c .before .before .before .before .before .before .add-to-others .ensures (w .sys) _ (others-at (w .at) q (c .before .before .before .before .before .before .before .before .before .before .before .record-solved .ensures _ _ (w .sys) _ (solved-at (w .at) q))) in
     record { n = c .before .before .before .before .before .before .before .before .before .before .before .before .before .before .before .before .before .before .before .args .n; sys = w .sys; s = _; at = lower-at (w .at) q o }
 
--- src/solving.rt:85:1
 same-length : tie.Need-same-length
 same-length c = c .before .numbers3 .given ∙ c .before .before .before .before .before .before .before .before .numbers2 .given ∙ c .before .before .before .before .before .before .before .before .before .before .before .before .before .numbers .given
 
--- src/solving.rt:85:1
 same-length-2 : tie.Need-same-length-2
 same-length-2 c = c .before .before .before .before .before .before .words .given
 
--- src/solving.rt:85:1
 returns : tie.Need-returns
 returns c =
     λ sys s es a.
@@ -94,10 +67,10 @@ solve-for-spec =
     mul-first-idle
     first-idle-requires
     record-solved-requires
-    cast-add-to-others
+    (λ c. search needs)  -- cast-add-to-others
     add-to-others-requires
     add-next
-    cast-lower-listed
+    (λ c. search needs)  -- cast-lower-listed
     lower-listed-requires
     same-length
     same-length-2
