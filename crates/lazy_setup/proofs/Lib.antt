@@ -6,3 +6,9 @@ pub mod Placing
 pub mod SortSteps
 pub mod Holding
 pub mod Filling
+pub mod Loading
+pub mod Weighing
+pub mod Showing
+pub mod Picture
+pub mod Steps
+pub mod Setting
