@@ -4,3 +4,10 @@ pub mod BackSub
 pub mod Theorems
 pub mod Examples
 pub mod RandomExamples
+pub mod Cases
+pub mod Loops
+pub mod Backward
+pub mod Forward
+pub mod Rounds
+pub mod Whole
+pub mod Ladder

@@ -1,1 +1,3 @@
 pub mod Eliminate
+pub mod Reduce
+pub mod SparseCall

@@ -1,0 +1,5 @@
+pub mod Put
+pub mod Holding
+pub mod Swapping
+pub mod Adding
+pub mod Loading

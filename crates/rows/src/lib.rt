@@ -1,0 +1,79 @@
+// A system's rows in lent memory: m rows of n numbers, a scratch row, m lengths; the constants in the words.
+ghost use mathlib.Core.Path.{_≡_};
+ghost use Prim.Native.Nat.{_+_, _≤_, _<_};
+ghost use lib.ListN.{length, set};
+ghost use Rattle.areas.specs.Stretch.{cleared};
+ghost use Rattle.answers.specs.Sizes.{maxVariables, sparseNumbers, sparseWords};
+ghost use Rattle.gf2.specs.Equation.{eqn, Rising};
+ghost use Rattle.rows.specs.Picture.{Longer, Held, Became, rowsOf, rowAt, swapped, added};
+
+// The room becomes zeros, which are `m` rows without variables; the remainder is untouched.
+pub fn clear(numbers: &mut [u32], words: &mut [u64], n: usize, m: usize)
+    requires { ⌜ (sparseNumbers n m ≤ length (now numbers)) × (sparseWords m ≤ length (now words)) ⌝ }
+    ensures { λ _. ⌜ now (numbers .exit) ≡ cleared (sparseNumbers n m) (now (numbers .entry)) ⌝ }
+    ensures { λ _. ⌜ now (words .exit) ≡ cleared (sparseWords m) (now (words .entry)) ⌝ }
+{
+    areas::zero::zero_numbers(numbers, 0, m * n + n + m);
+    areas::zero::zero_words(words, 0, m);
+}
+
+// Row `i`, which has no variables, becomes the equation of these variables and this constant.
+pub fn store_row(
+    numbers: &mut [u32],
+    words: &mut [u64],
+    n: usize,
+    m: usize,
+    i: usize,
+    vars: &[u32],
+    c: u64,
+)
+    requires { ⌜ Held n m (now numbers) (now words) × (i < m) × (n ≤ maxVariables) ⌝ }
+    requires { ⌜ length (rowAt (rowsOf n m (now numbers) (now words)) i .vars) ≡ 0 ⌝ }
+    requires { ⌜ Rising 0 n (now vars) ⌝ }
+    ensures { λ _. ⌜ Became n m (now (numbers .entry)) (now (words .entry)) (set (rowsOf n m (now (numbers .entry)) (now (words .entry))) i (eqn (now (vars .entry)) c)) (now (numbers .exit)) (now (words .exit)) ⌝ }
+{
+    let lens = m * n + n;
+    areas::copy::copy_numbers(vars, numbers, i * n);
+    numbers[lens + i] = vars.len() as u32;
+    words[i] = c;
+}
+
+// The longer of two lengths.
+pub fn longer(a: u32, b: u32) -> usize
+    ensures { λ r. ⌜ Longer a b r ⌝ }
+{
+    if a < b {
+        return b as usize;
+    }
+    a as usize
+}
+
+// Rows `i` and `j`, of which `i` comes first, change places; no more numbers are moved than the longer row has.
+pub fn swap_rows(numbers: &mut [u32], words: &mut [u64], n: usize, m: usize, i: usize, j: usize)
+    requires { ⌜ Held n m (now numbers) (now words) × (i < j) × (j < m) ⌝ }
+    ensures { λ _. ⌜ Became n m (now (numbers .entry)) (now (words .entry)) (swapped i j (rowsOf n m (now (numbers .entry)) (now (words .entry)))) (now (numbers .exit)) (now (words .exit)) ⌝ }
+{
+    let lens = m * n + n;
+    let li = numbers[lens + i];
+    let lj = numbers[lens + j];
+    let k = longer(li, lj);
+    areas::exchange::exchange_numbers(numbers, i * n, j * n, k);
+    numbers[lens + i] = lj;
+    numbers[lens + j] = li;
+    let c = words[i];
+    words[i] = words[j];
+    words[j] = c;
+}
+
+// Row `i` becomes its sum with row `j`.
+pub fn add_rows(numbers: &mut [u32], words: &mut [u64], n: usize, m: usize, i: usize, j: usize)
+    requires { ⌜ Held n m (now numbers) (now words) × (i < j) × (j < m) × (n ≤ maxVariables) ⌝ }
+    ensures { λ _. ⌜ Became n m (now (numbers .entry)) (now (words .entry)) (added i j (rowsOf n m (now (numbers .entry)) (now (words .entry)))) (now (numbers .exit)) (now (words .exit)) ⌝ }
+{
+    let lens = m * n + n;
+    let li = numbers[lens + i] as usize;
+    let lj = numbers[lens + j] as usize;
+    let k = equation::rows::add_into(numbers, n, i * n, li, j * n, lj, m * n);
+    numbers[lens + i] = k as u32;
+    words[i] = words[i] ^ words[j];
+}
