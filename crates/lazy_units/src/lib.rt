@@ -1,0 +1,1 @@
+// Lazy elimination in units, and its call.
