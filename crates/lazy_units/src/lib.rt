@@ -1,1 +1,2 @@
 // Lazy elimination in units, and its call.
+mod clearing;
