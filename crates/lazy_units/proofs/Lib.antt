@@ -1,1 +1,4 @@
 pub mod Tails
+pub mod DensePart
+pub mod Ends
+pub mod ClearRow

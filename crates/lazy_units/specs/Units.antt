@@ -62,3 +62,23 @@ Over unsolvable step.Unsolvable solution solution′ = solution′ ≡ solution
 Over (ok x) (step.More stand) solution solution′ = ⊥
 Over (ok x) step.Solved solution solution′ = solution′ ≡ x
 Over (ok x) step.Unsolvable solution solution′ = ⊥
+
+-- what a pop or an outer row leaves
+abbrev pub Going : ℕ → ℕ → Layout → List Equation → State → Result State → Step → List ℕ → List ℕ → Type 0
+Going n m layout sys s (ok s′) (step.More stand) numbers words = Stands n m layout sys s′ stand numbers words × (left s′ < left s)
+Going n m layout sys s (ok s′) step.Solved numbers words = ⊥
+Going n m layout sys s (ok s′) step.Unsolvable numbers words = ⊥
+Going n m layout sys s unsolvable (step.More stand) numbers words = ⊥
+Going n m layout sys s unsolvable step.Solved numbers words = ⊥
+Going n m layout sys s unsolvable step.Unsolvable numbers words = Unit {0}
+
+-- the dense part has a row to clear
+pub record ClearAt (n m : ℕ) (layout : Layout) (sys : List Equation) (s : State) (stand : Stand) (numbers words : List ℕ) : Type 0 where
+  pub stands : Stands n m layout sys s stand numbers words
+  pub popped : stand .remaining ≡ 0
+  pub some : stand .done + 1 < stand .dense
+
+pub record ClearReady (n m : ℕ) (layout : Layout) (stand : Stand) (numbers words : List ℕ) : Type 0 where
+  pub sys : List Equation
+  pub s : State
+  pub at : ClearAt n m layout sys s stand numbers words
