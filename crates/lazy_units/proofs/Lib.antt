@@ -2,3 +2,4 @@ pub mod Tails
 pub mod DensePart
 pub mod Ends
 pub mod ClearRow
+pub mod FillTurns

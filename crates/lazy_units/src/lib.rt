@@ -1,2 +1,3 @@
 // Lazy elimination in units, and its call.
 mod clearing;
+mod filling;
