@@ -3,3 +3,4 @@ pub mod DensePart
 pub mod Ends
 pub mod ClearRow
 pub mod FillTurns
+pub mod LastUnit
