@@ -147,6 +147,7 @@ module _ {n m : ℕ} {layout : Layout} {sys : List Equation} {s : State} {stand 
             rising = st .fit .rising;
             dense-rising = rr;
             solved-in = st .fit .solved-in;
+            done-low = let c = dense-count st in let e = done-count st in let g = a .some in omega arith;
             small = st .fit .small;
           };
           shows = record {

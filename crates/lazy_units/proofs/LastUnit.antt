@@ -22,7 +22,7 @@ use Rattle.lazy_pops.specs.declared.Step.{Step}
 use Rattle.lazy_pops.specs.declared.Step.the-variants as step
 use Rattle.lazy_pops.proofs.Places.{Places, places}
 use Rattle.lazy_units.specs.Units.{Stands, Over}
-use Rattle.lazy_units.specs.Ending.{FillAt, LastAt}
+use Rattle.lazy_units.specs.Ending.{FillAt, UnitAt}
 use Rattle.lazy_units.proofs.DensePart as part
 use Rattle.lazy_units.proofs.ClearRow.{dense-count, dense-low, dense-there, words-long}
 use Rattle.lazy_units.proofs.Tails.{tail-is}
@@ -59,7 +59,7 @@ pub record LastCells (n m : ℕ) (layout : Layout) (stand : Stand) (numbers word
   pub word-place : m ≤ length words
   pub asks : Held n m (take (length numbers - layout .dense) (drop (layout .dense) numbers)) (take (length words - m) (drop m words)) × (stand .dense ≤ m) × (length solution ≡ n)
 
-module _ {n m : ℕ} {layout : Layout} {sys : List Equation} {s : State} {stand : Stand} {numbers words solution : List ℕ} (a : LastAt n m layout sys s stand numbers words solution) where
+module _ {n m : ℕ} {layout : Layout} {sys : List Equation} {s : State} {stand : Stand} {numbers words solution : List ℕ} (a : UnitAt n m layout sys s stand numbers words solution) where
   abbrev st : Stands n m layout sys s stand numbers words
   st = a .stands
 

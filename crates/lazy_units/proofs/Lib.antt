@@ -4,3 +4,5 @@ pub mod Ends
 pub mod ClearRow
 pub mod FillTurns
 pub mod LastUnit
+pub mod UnitCases
+pub mod RunTurns

@@ -45,12 +45,12 @@ pub record FillReady (n lengths solved pivots k : ℕ) (numbers words solution :
   pub at : FillAt n m layout sys s lengths solved pivots k numbers words
   pub long : length solution ≡ n
 
--- nothing is left but the last unit
-pub record LastAt (n m : ℕ) (layout : Layout) (sys : List Equation) (s : State) (stand : Stand) (numbers words solution : List ℕ) : Type 0 where
+-- a unit can be done
+pub record UnitAt (n m : ℕ) (layout : Layout) (sys : List Equation) (s : State) (stand : Stand) (numbers words solution : List ℕ) : Type 0 where
   pub stands : Stands n m layout sys s stand numbers words
   pub long : length solution ≡ n
 
-pub record LastReady (n m : ℕ) (layout : Layout) (stand : Stand) (numbers words solution : List ℕ) : Type 0 where
+pub record UnitReady (n m : ℕ) (layout : Layout) (stand : Stand) (numbers words solution : List ℕ) : Type 0 where
   pub sys : List Equation
   pub s : State
-  pub at : LastAt n m layout sys s stand numbers words solution
+  pub at : UnitAt n m layout sys s stand numbers words solution

@@ -1,3 +1,4 @@
 pub mod Units
 pub mod Clearing
 pub mod Ending
+pub mod Running

@@ -23,6 +23,7 @@ pub record Fit (n : ℕ) (sys : List Equation) (s : State) : Type 0 where
   pub rising : Each (λ r. Rising 0 n (r .vars)) (s .rows)
   pub dense-rising : Each (λ r. Rising 0 n (r .vars)) (s .dense)
   pub solved-in : Each (λ d. (d .equation < length sys) × (d .pivot < n)) (s .solved)
+  pub done-low : s .denseDone ≤ length (s .dense)
   pub small : n ≤ maxVariables
 
 -- the areas and the stand hold what the lazy rules have

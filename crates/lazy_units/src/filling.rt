@@ -9,7 +9,7 @@ ghost use Prim.Native.Nat.{ℕ};
 ghost use Rattle.gf2.specs.Equation.{Equation};
 ghost use Rattle.lazy.specs.Lazy.{State, fill, lastUnit};
 ghost use Rattle.lazy_units.specs.Units.{Over};
-ghost use Rattle.lazy_units.specs.Ending.{MeetFits, met, FillAt, FillReady, LastAt, LastReady};
+ghost use Rattle.lazy_units.specs.Ending.{MeetFits, met, FillAt, FillReady, UnitAt, UnitReady};
 
 // The variable v gets the value that meets equation e.
 fn fill_one(numbers: &[u32], words: &[u64], n: usize, lengths: usize, e: usize, v: usize, solution: &mut [u64])
@@ -38,8 +38,8 @@ fn fill_solved(numbers: &[u32], words: &[u64], n: usize, lengths: usize, solved:
 
 // What is left of the dense part is checked and solved, then the solved equations are filled in; the solution is written only where there is one.
 pub fn finish(numbers: &[u32], words: &[u64], layout: Layout, n: usize, m: usize, stand: Stand, solution: &mut [u64]) -> Step
-    requires { ⌜ LastReady n m layout stand (now numbers) (now words) (now solution) ⌝ }
-    ensures { λ r. ⌜ ((sys : List Equation) (s : State) → LastAt n m layout sys s stand (now (numbers .entry)) (now (words .entry)) (now (solution .entry)) → Over (lastUnit n s) r (now (solution .entry)) (now (solution .exit))) ⌝ }
+    requires { ⌜ UnitReady n m layout stand (now numbers) (now words) (now solution) ⌝ }
+    ensures { λ r. ⌜ ((sys : List Equation) (s : State) → UnitAt n m layout sys s stand (now (numbers .entry)) (now (words .entry)) (now (solution .entry)) → Over (lastUnit n s) r (now (solution .entry)) (now (solution .exit))) ⌝ }
 {
     let dense = layout.dense;
     match sparse::back::finish_rows(&numbers[dense..], &words[m..], n, m, stand.dense, solution) {

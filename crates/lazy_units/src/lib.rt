@@ -1,3 +1,4 @@
 // Lazy elimination in units, and its call.
 mod clearing;
 mod filling;
+mod units;
