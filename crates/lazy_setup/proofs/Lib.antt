@@ -12,3 +12,4 @@ pub mod Showing
 pub mod Picture
 pub mod Steps
 pub mod Setting
+pub mod Examples

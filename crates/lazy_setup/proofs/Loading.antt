@@ -1,23 +1,22 @@
 -- The loops that load the rows and list the first equations.
-use mathlib.Core.Path.{_≡_, refl, sym, ap, ap₂, _∙_, subst}
+use mathlib.Core.Path.{_≡_, refl, sym, ap, ap₂, _∙_}
 use mathlib.Core.Logic.{_≢_}
 use mathlib.Core.List.{List, [], _∷_, _++_, map, append-assoc, append-nil}
 use mathlib.Core.Bool.{Bool, true, false, cond}
 use Prim.Native.Nat.{ℕ, zero, suc, _+_, _-_, _*_, _≤_, _<_}
-use native.Mathlib.Nat.{add-zero, zero-add}
-use native.Mathlib.Numerals.{add-one, sub-one}
+use native.Mathlib.Nat.{zero-add}
+use native.Mathlib.Numerals.{sub-one}
 use native.Mathlib.Omega.{arith}
 use native.Mathlib.Decide.{decLt}
 use borrow.Author.Tests.{le-leb, lt-leb, lt-ltb, le-ltb}
 use lib.ListN.{length, take, drop, getD, set, replicate, length-append, length-replicate, length-set, length-map, take-append-drop, getD-replicate}
-use lib.Seq.{take-all}
-use lib.Dec.{eqb, ltb, leb}
-use Rattle.gf2.specs.Equation.{Equation, Rising}
+use lib.Dec.{ltb, leb}
+use Rattle.gf2.specs.Equation.{Equation}
 use Rattle.gf2.specs.NumberLists.{upFrom, downFrom, keep}
 use Rattle.gf2.specs.ByNumber.{rowOf, blank}
 use Rattle.gf2.proofs.SymDiff.{rising-length}
 use Rattle.gf2.proofs.Selecting.{length-keep}
-use Rattle.areas.specs.Rows.{padded, laid, Narrow}
+use Rattle.areas.specs.Rows.{laid, Narrow}
 use Rattle.areas.specs.Stretch.{stretch, put}
 use Rattle.areas.proofs.Stretch.{length-stretch, getD-stretch, put-none, put-more, getD-put-before, length-put}
 use Rattle.areas.proofs.Rows.{length-laid, laid-empty, padded-full, put-row}
@@ -25,7 +24,7 @@ use Rattle.areas.proofs.Offsets.{row-before}
 use Rattle.system.specs.System.{equationAt, equations}
 use Rattle.system.specs.Fits.{Fits}
 use Rattle.system.proofs.Reading.{equations-at}
-use Rattle.lazy_setup.specs.Area.{rowsOf, lengths}
+use Rattle.lazy_setup.specs.Area.{rowsOf}
 use Rattle.lazy_setup.specs.Tables.{spans, firsts}
 use Rattle.lazy_setup.proofs.Tables.{getD-table, length-table, is-table, same-table, set-table}
 
@@ -87,13 +86,13 @@ module _ {n m : ℕ} {starts vars : List ℕ} (f : Fits n m starts vars (replica
   unfolding rowsUpTo es
   no-rows =
       sym (is-table [] (λ e. cond (ltb e 0) (rowOf es e .vars) []) (length es) (replicate m []) (length-replicate m [] ∙ sym (f .many))
-        (λ e h. let z = f .many in getD-replicate m e [] [] (omega arith) ∙ sym (rw (le-ltb e 0 (omega arith)))))
+      (λ e h. let z = f .many in getD-replicate m e [] [] (omega arith) ∙ sym (rw (le-ltb e 0 (omega arith)))))
 
   next-row : (i : ℕ) → i < m → set (rowsUpTo es i) i (rowOf es i .vars) ≡ rowsUpTo es (i + 1)
   unfolding rowsUpTo es
   next-row i h =
       set-table [] (λ e. cond (ltb e i) (rowOf es e .vars) []) (λ e. cond (ltb e (i + 1)) (rowOf es e .vars) []) (length es) i (rowOf es i .vars) (let z = f .many in omega arith)
-        (rw (lt-ltb i (i + 1) (omega arith))) (λ e g r. ap (λ (b : Bool). cond b (rowOf es e .vars) []) (test e r (decLt e i)))
+      (rw (lt-ltb i (i + 1) (omega arith))) (λ e g r. ap (λ (b : Bool). cond b (rowOf es e .vars) []) (test e r (decLt e i)))
     where
       test : (e : ℕ) → e ≢ i → Dec (e < i) → ltb e i ≡ ltb e (i + 1)
       test e r (yes h) = lt-ltb e i h ∙ sym (lt-ltb e (i + 1) (omega arith))
@@ -141,16 +140,22 @@ loading-turn {n} {m} {starts} {vars} {l} {i} {area} s h area′ q =
   where
     f : Fits n m starts vars (replicate m 0)
     f = s .fits
+
     vs : List ℕ
     vs = take (getD starts (i + 1) 0 - getD starts i 0) (drop (getD starts i 0) vars)
+
     size : length vs ≡ getD starts (i + 1) 0 - getD starts i 0
     size = let b = loading-fits s h in length-stretch (getD starts i 0) (getD starts (i + 1) 0 - getD starts i 0) vars (omega arith)
+
     row : rowOf (es f) i .vars ≡ vs
     row = ap (λ (r : Equation). r .vars) (row-is f i h)
+
     short : length vs ≤ n
     short = let r = row-short f i h in let e = ap (λ (t : List ℕ). length t) row in omega arith
+
     bare : getD (rowsUpTo (es f) i) i [] ≡ []
     bare = row-at f i i h ∙ rw (le-ltb i i (omega arith))
+
     written : put (i * n) vs (laid n (rowsUpTo (es f) i) ++ drop (m * n) l) ≡ laid n (rowsUpTo (es f) (i + 1)) ++ drop (m * n) l
     written =
         let k = many-rows f i in
@@ -241,7 +246,7 @@ module _ {m p a : ℕ} {l : List ℕ} {j top : ℕ} {area : List ℕ} (s : Listi
         long = simp length-set (s .long);
         high = rw length-append (omega arith);
         whole = append-assoc (s .done) (j ∷ []) (firsts (stretch p m l) j)
-          ∙ ap (λ (t : List ℕ). s .done ++ t) (sym (firsts-taken (stretch p m l) j (let e = read in omega arith))) ∙ s .whole;
+            ∙ ap (λ (t : List ℕ). s .done ++ t) (sym (firsts-taken (stretch p m l) j (let e = read in omega arith))) ∙ s .whole;
         shown = ap₂ (λ (t : List ℕ) (k : ℕ). set t (a + k) j) (s .shown) (s .high) ∙ put-more a j (s .done) l (omega arith);
       }
 

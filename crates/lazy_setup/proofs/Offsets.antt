@@ -1,20 +1,17 @@
 -- Where the segments of a state begin: the layout's numbers.
 use mathlib.Core.Path.{_≡_, refl, sym, ap, ap₂, _∙_}
-use mathlib.Core.List.{List, [], _∷_, _++_, map, reverse}
-use mathlib.Core.Bool.{Bool}
-use Prim.Native.Nat.{ℕ, zero, suc, _+_, _*_, _≤_, _<_}
+use mathlib.Core.List.{List, [], _∷_, map, reverse}
+use Prim.Native.Nat.{ℕ, zero, suc, _+_, _*_, _≤_}
 use native.Mathlib.Nat.{mul-le-mul-right}
 use native.Mathlib.Omega.{arith}
-use lib.ListN.{length, take, getD, replicate, length-append, length-replicate, length-map, length-reverse}
+use lib.ListN.{length, getD, length-append, length-replicate, length-map, length-reverse}
 use Rattle.gf2.specs.Equation.{Equation}
 use Rattle.answers.specs.Sizes.{lazyNumbers}
-use Rattle.areas.specs.Rows.{padded, laid, Narrow}
 use Rattle.areas.specs.Segments.{joined, offset}
 use Rattle.areas.proofs.Rows.{length-padded, length-laid}
 use Rattle.areas.proofs.Segments.{length-joined}
 use Rattle.lazy.specs.Lazy.{State, listing}
-use Rattle.lazy_setup.specs.declared.Layout.{Layout}
-use Rattle.lazy_setup.specs.Area.{mark, segments, listsFrom, startsFrom, lengths, rowsOf, densePart, numbersOf}
+use Rattle.lazy_setup.specs.Area.{mark, segments, listsFrom, startsFrom, lengths, rowsOf, densePart}
 use Rattle.lazy_setup.specs.Layout.{sizes, Shaped, layoutOf, Sized}
 
 -- the sum of the first k of a list

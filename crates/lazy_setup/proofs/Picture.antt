@@ -1,10 +1,10 @@
 -- The segments of the start, in terms of what the code makes of the lent starts and variables.
 use mathlib.Core.Path.{_≡_, refl, sym, ap, ap₂, _∙_}
 use mathlib.Core.List.{List, [], _∷_, _++_, map, reverse, reverse-reverse}
-use mathlib.Core.Bool.{Bool, true}
+use mathlib.Core.Bool.{true}
 use Prim.Native.Nat.{ℕ, zero, suc, _+_, _-_, _*_, _≤_, _<_}
 use native.Mathlib.Omega.{arith}
-use lib.ListN.{length, getD, replicate, length-map, replicate-append-replicate, length-reverse}
+use lib.ListN.{length, getD, replicate, length-map, replicate-append-replicate}
 use lib.Dec.{eqb, leb}
 use Rattle.gf2.specs.Equation.{Equation, lists}
 use Rattle.gf2.specs.NumberLists.{upFrom, downFrom, keep, count}
@@ -18,11 +18,11 @@ use Rattle.areas.proofs.Stretch.{length-stretch}
 use Rattle.system.specs.System.{equationAt, equationsFrom, equations}
 use Rattle.system.specs.Fits.{Fits}
 use Rattle.system.proofs.Reading.{equations-at}
-use Rattle.lazy.specs.Lazy.{State, listing, heaviest, start}
-use Rattle.lazy_setup.specs.Area.{mark, lengths, rowsOf, listsFrom, startsFrom, densePart, segments, numbersOf, wordsOf}
+use Rattle.lazy.specs.Lazy.{listing, heaviest, start}
+use Rattle.lazy_setup.specs.Area.{mark, lengths, rowsOf, listsFrom, densePart, segments}
 use Rattle.lazy_setup.specs.Tables.{tallies, running, spans, firsts}
-use Rattle.lazy_setup.proofs.Tables.{is-table, same-table, length-tallies}
-use Rattle.lazy_setup.proofs.Sorting.{reverse-keep, buckets, buckets-end, length-buckets}
+use Rattle.lazy_setup.proofs.Tables.{is-table, same-table}
+use Rattle.lazy_setup.proofs.Sorting.{reverse-keep}
 use Rattle.lazy_setup.proofs.Holding.{owners, shelves, filled-lists, begins-are, weights-are, weight-counts}
 
 -- ---- the constants do not matter
@@ -80,7 +80,7 @@ module _ {n m : ℕ} {starts vars constants : List ℕ} (f : Fits n m starts var
   unfolding spans
   lengths-are =
       is-table 0 (λ i. getD starts (i + 1) 0 - getD starts i 0) m (lengths (equations m starts vars constants))
-        (length-map (equations m starts vars constants) (λ r. length (r .vars)) ∙ f .many) (λ i h. at (equations m starts vars constants) i (let z = f .many in omega arith) ∙ span-long i h)
+      (length-map (equations m starts vars constants) (λ r. length (r .vars)) ∙ f .many) (λ i h. at (equations m starts vars constants) i (let z = f .many in omega arith) ∙ span-long i h)
     where
       at : (l : List Equation) (i : ℕ) → i < length l → getD (map (λ r. length (r .vars)) l) i 0 ≡ length (rowOf l i .vars)
       at [] i h = absurd (omega arith)
@@ -125,5 +125,6 @@ module _ {n m : ℕ} {starts vars constants : List ℕ} (f : Fits n m starts var
       where
         cons : {a b : List ℕ} {x y : List (List ℕ)} → a ≡ b → x ≡ y → _≡_ {A = List (List ℕ)} (a ∷ x) (b ∷ y)
         cons p q = ap₂ (λ (x : List ℕ) (l : List (List ℕ)). x ∷ l) p q
+
         none : padded (length (equations m starts vars constants)) [] ≡ replicate m 0
         none = ap (λ (k : ℕ). padded k []) (f .many) ∙ padded-nil m

@@ -1,16 +1,16 @@
 -- An area that shows segments of the layout's lengths: reading and writing one of them.
 use mathlib.Core.Path.{_≡_, refl, sym, ap, ap₂, _∙_}
 use mathlib.Core.List.{List, [], _∷_, _++_, map}
-use Prim.Native.Nat.{ℕ, zero, suc, _+_, _-_, _≤_, _<_}
+use Prim.Native.Nat.{ℕ, zero, suc, _+_, _-_, _≤_}
 use native.Mathlib.Nat.{add-zero, zero-add, sub-zero}
 use native.Mathlib.Omega.{arith}
-use lib.ListN.{length, take, drop, getD, set, replicate, length-append, length-replicate, replicate-append-replicate}
+use lib.ListN.{length, drop, getD, set, replicate, length-append, length-replicate, replicate-append-replicate}
 use lib.Seq.{set-getD}
 use Rattle.answers.specs.Sizes.{lazyNumbers}
 use Rattle.areas.specs.Rows.{padded}
 use Rattle.areas.specs.Stretch.{stretch, put}
 use Rattle.areas.specs.Segments.{joined, offset}
-use Rattle.areas.proofs.Stretch.{length-put, drop-replicate}
+use Rattle.areas.proofs.Stretch.{drop-replicate}
 use Rattle.areas.proofs.Rows.{length-padded}
 use Rattle.areas.proofs.Segments.{stretch-segment, put-segment, put-joined, inside-joined}
 use Rattle.lazy_setup.specs.Layout.{sizes, Shaped}
@@ -55,9 +55,9 @@ module _ {n m t : ℕ} {rest : List ℕ} {segs : List (List ℕ)} {area : List �
       record {
         shape = set-shape k (padded (getD (sizes n m t) k 0) s) (length-padded (getD (sizes n m t) k 0) s h);
         shown =
-          let y = long n m t segs (w .shape) k in
-          ap₂ (λ (q : ℕ) (a : List ℕ). put q s a) (e ∙ sym (add-zero (offset k segs))) (w .shown) ∙ put-joined k segs rest 0 s (omega arith)
-          ∙ ap (λ (a : List ℕ). joined (set segs k a) ++ rest) (ap (put 0 s) z ∙ zeros-left (getD (sizes n m t) k 0) s h);
+            let y = long n m t segs (w .shape) k in
+            ap₂ (λ (q : ℕ) (a : List ℕ). put q s a) (e ∙ sym (add-zero (offset k segs))) (w .shown) ∙ put-joined k segs rest 0 s (omega arith)
+            ∙ ap (λ (a : List ℕ). joined (set segs k a) ++ rest) (ap (put 0 s) z ∙ zeros-left (getD (sizes n m t) k 0) s h);
       }
 
   pub shows-inside : (k p : ℕ) → p ≡ offset k segs → p + getD (sizes n m t) k 0 ≤ length area
@@ -85,9 +85,9 @@ shows-blank n m t l h =
     record {
       shape = lengths-blank (sizes n m t);
       shown =
-        let e : total (sizes n m t) ≡ lazyNumbers n m t = omega arith in
-        let d : 0 + length (replicate {A = ℕ} (lazyNumbers n m t) 0) ≡ lazyNumbers n m t = zero-add (length (replicate {A = ℕ} (lazyNumbers n m t) 0)) ∙ length-replicate (lazyNumbers n m t) 0 in
-        rw (sub-zero, d) (ap (λ (s : List ℕ). s ++ drop (lazyNumbers n m t) l) (sym (total-zeros (sizes n m t) ∙ ap (λ (k : ℕ). replicate k 0) e)));
+          let e : total (sizes n m t) ≡ lazyNumbers n m t = omega arith in
+          let d : 0 + length (replicate {A = ℕ} (lazyNumbers n m t) 0) ≡ lazyNumbers n m t = zero-add (length (replicate {A = ℕ} (lazyNumbers n m t) 0)) ∙ length-replicate (lazyNumbers n m t) 0 in
+          rw (sub-zero, d) (ap (λ (s : List ℕ). s ++ drop (lazyNumbers n m t) l) (sym (total-zeros (sizes n m t) ∙ ap (λ (k : ℕ). replicate k 0) e)));
     }
   where
     lengths-blank : (ks : List ℕ) → map (λ s. length s) (map (λ k. replicate {A = ℕ} k 0) ks) ≡ ks

@@ -1,9 +1,9 @@
 -- The steps of the setup, from zeros to the picture of the start.
-use mathlib.Core.Path.{_≡_, refl, sym, ap, ap₂, _∙_}
-use mathlib.Core.List.{List, [], _∷_, _++_, map, reverse}
-use Prim.Native.Nat.{ℕ, zero, suc, _+_, _-_, _*_, _≤_, _<_}
+use mathlib.Core.Path.{_≡_, refl, sym, ap, _∙_}
+use mathlib.Core.List.{List, [], _∷_, _++_, reverse}
+use Prim.Native.Nat.{ℕ, _+_, _-_, _*_, _≤_, _<_}
 use native.Mathlib.Omega.{arith}
-use lib.ListN.{length, drop, getD, set, replicate, length-replicate, length-reverse}
+use lib.ListN.{length, drop, set, replicate, length-replicate, length-reverse}
 use Rattle.gf2.specs.Equation.{Each}
 use Rattle.gf2.proofs.Each.{each-from}
 use Rattle.answers.specs.Sizes.{maxVariables, maxEquations, maxListed, lazyNumbers}
@@ -16,14 +16,14 @@ use Rattle.system.specs.Fits.{Fits}
 use Rattle.lazy.specs.Lazy.{heaviest, start}
 use Rattle.lazy_setup.specs.declared.Layout.{Layout}
 use Rattle.lazy_setup.specs.Area.{rowsOf, listsFrom, numbersOf}
-use Rattle.lazy_setup.specs.Layout.{sizes, Shaped, layoutOf}
+use Rattle.lazy_setup.specs.Layout.{layoutOf}
 use Rattle.lazy_setup.specs.Tables.{tallies, running, spans, firsts}
 use Rattle.lazy_setup.proofs.Offsets.{at-lengths, at-lists, at-starts, at-weight, at-variables, at-idle, at-position, at-priority, at-equations, at-count}
 use Rattle.lazy_setup.proofs.Showing.{Shows, shows-read, shows-put, shows-fill, shows-inside, blanks, shows-blank}
 use Rattle.lazy_setup.proofs.Tables.{length-tallies, getD-tallies}
 use Rattle.lazy_setup.proofs.RunningSums.{length-running}
-use Rattle.lazy_setup.proofs.Sorting.{buckets, buckets-end, length-buckets}
-use Rattle.lazy_setup.proofs.Holding.{vars-below, filled-lists, length-shelves, owners, owners-long}
+use Rattle.lazy_setup.proofs.Sorting.{buckets-end, length-buckets}
+use Rattle.lazy_setup.proofs.Holding.{vars-below, lists-long}
 use Rattle.lazy_setup.proofs.Loading.{length-rows, length-spans, length-firsts}
 use Rattle.lazy_setup.proofs.Picture.{madeSegments, start-picture, first-are, weights-low}
 
@@ -55,11 +55,6 @@ module _ (n m : ℕ) (starts vars : List ℕ) where
   made = set sorted 9 (padded m (firsts (spans m starts) m))
 
 module _ {n m : ℕ} {starts vars : List ℕ} (g : Fits n m starts vars (replicate m 0)) where
-  length-lists : length (listsFrom (equations m starts vars (replicate m 0)) 0 n) ≡ length vars
-  length-lists =
-      ap (λ (s : List ℕ). length s) (sym (filled-lists g))
-      ∙ length-shelves vars (owners 0 (equations m starts vars (replicate m 0))) (owners-long g) n (length vars) (omega arith) (vars-below g)
-
   pub length-sorted : length (reverse (heaviest (tallies n vars) n m)) ≡ n
   length-sorted =
       let z = length-tallies n vars in
@@ -111,11 +106,16 @@ module _ {n m : ℕ} {starts vars : List ℕ} (g : Fits n m starts vars (replica
         → (Fits n m starts vars (replicate m 0) × (m * n ≤ length l) × (at .lengths + m ≤ length l) × (at .idle + n ≤ length l) × (at .priority + m ≤ length l))
         × (stretch 0 (m * n) l ≡ replicate (m * n) 0)
     unfolding blanks offset
-    load-ready s =
-        ((g, (let i = shows-inside s 0 0 refl in omega arith), shows-inside s 1 (at .lengths) (lengths-at s),
-          shows-inside s 6 (at .idle) (idle-at s),
-          shows-inside s 8 (at .priority) (priority-at s)),
-        shows-read s 0 0 (m * n) refl refl)
+    load-ready s = (
+      (
+        g,
+        (let i = shows-inside s 0 0 refl in omega arith),
+        shows-inside s 1 (at .lengths) (lengths-at s),
+        shows-inside s 6 (at .idle) (idle-at s),
+        shows-inside s 8 (at .priority) (priority-at s),
+      ),
+      shows-read s 0 0 (m * n) refl refl,
+    )
 
     pub load-shows : {l l′ : List ℕ} → Shows n m (length vars) rest (blanks n m (length vars)) l
         → l′ ≡ put (at .idle) (replicate n 1) (put (at .priority) (spans m starts) (put (at .lengths) (spans m starts) (put 0 (rowsOf n (equations m starts vars (replicate m 0))) l)))
@@ -134,10 +134,16 @@ module _ {n m : ℕ} {starts vars : List ℕ} (g : Fits n m starts vars (replica
         → ((n ≤ maxVariables) × (length vars ≤ maxListed) × Each (λ v. v < n) vars × (at .starts + (n + 1) ≤ at .weight) × (at .weight + n ≤ length l))
         × ((stretch (at .starts) (n + 1) l ≡ replicate (n + 1) 0) × (stretch (at .weight) n l ≡ replicate n 0))
     unfolding loaded blanks layoutOf
-    weigh-ready s =
-        ((g .few-variables, g .few-listed, vars-below g, (let a = ap (λ (a : Layout). a .starts) same in let b = ap (λ (a : Layout). a .weight) same in omega arith),
-          shows-inside s 4 (at .weight) (weight-at s)),
-        (shows-read s 3 (at .starts) (n + 1) (starts-at s) refl, shows-read s 4 (at .weight) n (weight-at s) refl))
+    weigh-ready s = (
+      (
+        g .few-variables,
+        g .few-listed,
+        vars-below g,
+        (let a = ap (λ (a : Layout). a .starts) same in let b = ap (λ (a : Layout). a .weight) same in omega arith),
+        shows-inside s 4 (at .weight) (weight-at s),
+      ),
+      (shows-read s 3 (at .starts) (n + 1) (starts-at s) refl, shows-read s 4 (at .weight) n (weight-at s) refl),
+    )
 
     pub weigh-shows : {l l′ : List ℕ} → Shows n m (length vars) rest (loaded n m starts vars) l
         → l′ ≡ put (at .starts) (running 0 (0 ∷ tallies n vars)) (put (at .weight) (tallies n vars) l) → Shows n m (length vars) rest (weighed n m starts vars) l′
@@ -155,16 +161,20 @@ module _ {n m : ℕ} {starts vars : List ℕ} (g : Fits n m starts vars (replica
         → (Fits n m starts vars (replicate m 0) × (at .lists + length vars ≤ at .starts) × (at .starts + (n + 1) ≤ at .position) × (at .position + n ≤ length l))
         × ((stretch (at .starts) (n + 1) l ≡ running 0 (0 ∷ tallies n vars)) × (stretch (at .lists) (length vars) l ≡ replicate (length vars) 0) × (stretch (at .position) n l ≡ replicate n 0))
     unfolding weighed loaded blanks layoutOf
-    fill-ready s =
-        ((g, (let a = ap (λ (a : Layout). a .lists) same in let b = ap (λ (a : Layout). a .starts) same in omega arith),
-          (let a = ap (λ (a : Layout). a .starts) same in let b = ap (λ (a : Layout). a .position) same in omega arith),
-          shows-inside s 7 (at .position) (position-at s)),
-        (shows-read s 3 (at .starts) (n + 1) (starts-at s) refl, shows-read s 2 (at .lists) (length vars) (lists-at s) refl, shows-read s 7 (at .position) n (position-at s) refl))
+    fill-ready s = (
+      (
+        g,
+        (let a = ap (λ (a : Layout). a .lists) same in let b = ap (λ (a : Layout). a .starts) same in omega arith),
+        (let a = ap (λ (a : Layout). a .starts) same in let b = ap (λ (a : Layout). a .position) same in omega arith),
+        shows-inside s 7 (at .position) (position-at s),
+      ),
+      (shows-read s 3 (at .starts) (n + 1) (starts-at s) refl, shows-read s 2 (at .lists) (length vars) (lists-at s) refl, shows-read s 7 (at .position) n (position-at s) refl),
+    )
 
     pub fill-shows : {l l′ : List ℕ} → Shows n m (length vars) rest (weighed n m starts vars) l
         → l′ ≡ put (at .lists) (listsFrom (equations m starts vars (replicate m 0)) 0 n) l → Shows n m (length vars) rest (listed n m starts vars) l′
     unfolding listed
-    fill-shows {l} {l′} s q = let a = shows-put s 2 (at .lists) (listsFrom (equations m starts vars (replicate m 0)) 0 n) (lists-at s) length-lists in rw q a
+    fill-shows {l} {l′} s q = let a = shows-put s 2 (at .lists) (listsFrom (equations m starts vars (replicate m 0)) 0 n) (lists-at s) (lists-long g) in rw q a
 
     -- ---- the variables by weight
 
@@ -176,11 +186,17 @@ module _ {n m : ℕ} {starts vars : List ℕ} (g : Fits n m starts vars (replica
         → ((n ≤ maxVariables) × (m ≤ maxEquations) × (at .weight + n ≤ at .variables) × (at .variables + n ≤ at .count) × (at .count + (m + 1) ≤ length l) × Each (λ w. w < m + 1) (stretch (at .weight) n l))
         × ((stretch (at .count) (m + 1) l ≡ replicate (m + 1) 0) × (stretch (at .variables) n l ≡ replicate n 0))
     unfolding listed weighed loaded blanks layoutOf
-    sort-ready s =
-        ((g .few-variables, g .few-equations, (let a = ap (λ (a : Layout). a .weight) same in let b = ap (λ (a : Layout). a .variables) same in omega arith),
-          (let a = ap (λ (a : Layout). a .variables) same in let b = ap (λ (a : Layout). a .count) same in omega arith),
-          shows-inside s 12 (at .count) (count-at s), rw (weights-shown s) (tallies-low g)),
-        (shows-read s 12 (at .count) (m + 1) (count-at s) refl, shows-read s 5 (at .variables) n (variables-at s) refl))
+    sort-ready s = (
+      (
+        g .few-variables,
+        g .few-equations,
+        (let a = ap (λ (a : Layout). a .weight) same in let b = ap (λ (a : Layout). a .variables) same in omega arith),
+        (let a = ap (λ (a : Layout). a .variables) same in let b = ap (λ (a : Layout). a .count) same in omega arith),
+        shows-inside s 12 (at .count) (count-at s),
+        rw (weights-shown s) (tallies-low g),
+      ),
+      (shows-read s 12 (at .count) (m + 1) (count-at s) refl, shows-read s 5 (at .variables) n (variables-at s) refl),
+    )
 
     pub sort-shows : {l l′ : List ℕ} → Shows n m (length vars) rest (listed n m starts vars) l
         → l′ ≡ put (at .variables) (reverse (heaviest (stretch (at .weight) n l) n m)) l → Shows n m (length vars) rest (sorted n m starts vars) l′

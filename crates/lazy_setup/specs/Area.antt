@@ -6,7 +6,7 @@ use lib.ListN.{length, replicate}
 use Rattle.gf2.specs.Equation.{Equation}
 use Rattle.areas.specs.Rows.{padded, laid}
 use Rattle.areas.specs.Segments.{joined}
-use Rattle.lazy.specs.Lazy.{State, Solved, listing}
+use Rattle.lazy.specs.Lazy.{State, listing}
 
 -- an idle variable is marked by 1
 abbrev pub mark : Bool → ℕ

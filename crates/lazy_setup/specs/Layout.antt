@@ -8,7 +8,6 @@ use Rattle.areas.specs.Rows.{Narrow}
 use Rattle.lazy.specs.Lazy.{State}
 use Rattle.lazy_setup.specs.declared.Layout.{Layout}
 use Rattle.lazy_setup.specs.declared.Stand.{Stand}
-use Rattle.lazy_setup.specs.Area.{segments}
 
 -- the lengths of the fourteen segments
 abbrev pub sizes : ℕ → ℕ → ℕ → List ℕ

@@ -108,7 +108,15 @@ fn setup_numbers(n: usize, m: usize, starts: &[u32], vars: &[u32], numbers: &mut
 }
 
 // The work areas of the start, from a system that keeps its rules: how far the lists reach.
-pub fn setup(n: usize, m: usize, starts: &[u32], vars: &[u32], constants: &[u64], numbers: &mut [u32], words: &mut [u64]) -> Stand
+pub fn setup(
+    n: usize,
+    m: usize,
+    starts: &[u32],
+    vars: &[u32],
+    constants: &[u64],
+    numbers: &mut [u32],
+    words: &mut [u64],
+) -> Stand
     requires { ⌜ Fits n m (now starts) (now vars) (now constants) × (lazyNumbers n m (length (now vars)) ≤ length (now numbers)) × (lazyWords m ≤ length (now words)) ⌝ }
     ensures { λ r. ⌜ r ≡ standOf (start n (equations m (now (starts .entry)) (now (vars .entry)) (now (constants .entry)))) ⌝ }
     ensures { λ _. ⌜ now (numbers .exit) ≡ numbersOf n (equations m (now (starts .entry)) (now (vars .entry)) (now (constants .entry))) (start n (equations m (now (starts .entry)) (now (vars .entry)) (now (constants .entry)))) ++ drop (lazyNumbers n m (length (now (vars .entry)))) (now (numbers .entry)) ⌝ }

@@ -1,6 +1,5 @@
 // The lent system in the work area: rows, lengths, marks and the first list.
 use areas::copy;
-
 ghost use mathlib.Core.Path.{_≡_};
 ghost use Prim.Native.Nat.{ℕ, _+_, _*_, _<_, _≤_};
 ghost use lib.ListN.{length, getD, replicate};
@@ -68,7 +67,16 @@ pub fn first_list(numbers: &mut [u32], m: usize, priority: usize, list: usize) -
 }
 
 // The rows, their lengths, the priorities and the marks of the idle variables.
-pub fn load(n: usize, m: usize, starts: &[u32], vars: &[u32], numbers: &mut [u32], lengths: usize, idle: usize, priority: usize)
+pub fn load(
+    n: usize,
+    m: usize,
+    starts: &[u32],
+    vars: &[u32],
+    numbers: &mut [u32],
+    lengths: usize,
+    idle: usize,
+    priority: usize,
+)
     requires { ⌜ Fits n m (now starts) (now vars) (replicate m 0) × (m * n ≤ length (now numbers)) × (lengths + m ≤ length (now numbers)) × (idle + n ≤ length (now numbers)) × (priority + m ≤ length (now numbers)) ⌝ }
     requires { ⌜ stretch 0 (m * n) (now numbers) ≡ replicate (m * n) 0 ⌝ }
     ensures { λ _. ⌜ now (numbers .exit) ≡ put idle (replicate n 1) (put priority (spans m (now (starts .entry))) (put lengths (spans m (now (starts .entry))) (put 0 (rowsOf n (equations m (now (starts .entry)) (now (vars .entry)) (replicate m 0))) (now (numbers .entry))))) ⌝ }
