@@ -6,3 +6,4 @@ pub mod FillTurns
 pub mod LastUnit
 pub mod UnitCases
 pub mod RunTurns
+pub mod Opening

@@ -2,3 +2,4 @@ pub mod Units
 pub mod Clearing
 pub mod Ending
 pub mod Running
+pub mod LazyCall

@@ -2,3 +2,4 @@
 mod clearing;
 mod filling;
 mod units;
+mod whole;
