@@ -7,3 +7,5 @@ pub mod LastUnit
 pub mod UnitCases
 pub mod RunTurns
 pub mod Opening
+pub mod Closing
+pub mod Ladder
