@@ -1,0 +1,15 @@
+// The pops of lazy elimination, on its work areas.
+use lazy_setup::Stand;
+
+pub mod dense;
+pub mod lowering;
+pub mod popping;
+pub mod solving;
+pub mod variables;
+
+// How a unit ends: there is more to do, or the build is solved or refused.
+pub enum Step {
+    More(Stand),
+    Solved,
+    Unsolvable,
+}

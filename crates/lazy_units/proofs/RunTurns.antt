@@ -1,0 +1,129 @@
+-- The run, unit after unit.
+use mathlib.Core.Path.{_≡_, refl, sym, ap, ap₂, _∙_, subst}
+use mathlib.Core.List.{List, [], _∷_}
+use Prim.Native.Nat.{ℕ, zero, suc, pred, _+_, _-_, _≤_, _<_}
+use native.Mathlib.Omega.{arith}
+use lib.ListN.{length}
+use Rattle.gf2.specs.Equation.{Equation}
+use Rattle.gf2.specs.Result.{Result, unsolvable, ok}
+use Rattle.lazy.specs.Lazy.{State, Build, more, ended, unit, after, answerOf}
+use Rattle.lazy.proofs.Turns.{after-end}
+use Rattle.lazy_setup.specs.declared.Layout.{Layout}
+use Rattle.lazy_setup.specs.declared.Stand.{Stand}
+use Rattle.lazy_setup.specs.Layout.{standOf}
+use Rattle.lazy_pops.specs.declared.Step.{Step}
+use Rattle.lazy_pops.specs.declared.Step.the-variants as step
+use Rattle.lazy_units.specs.Units.{Stands, left, Gone, Over}
+use Rattle.lazy_units.specs.Ending.{UnitAt}
+use Rattle.lazy_units.specs.Running.{leftOf}
+
+-- from s′, k′ units lead where k units lead from s
+pub record Ahead (n : ℕ) (sys : List Equation) (s s′ : State) (k : ℕ) : Type 0 where
+  pub k′ : ℕ
+  pub enough : left s′ < k′
+  pub follows : after k n sys (more s) ≡ after k′ n sys (more s′)
+
+pub record Running (n m : ℕ) (layout : Layout) (sys : List Equation) (s : State) (stand : Stand) (numbers words solution₀ solution : List ℕ) : Type 0 where
+  pub s′ : State
+  pub at : UnitAt n m layout sys s′ stand numbers words solution
+  pub same : solution ≡ solution₀
+  pub ahead : (k : ℕ) → left s < k → Ahead n sys s s′ k
+
+pub run-begin : {n m : ℕ} {layout : Layout} {sys : List Equation} {s : State} {stand : Stand} {numbers words solution : List ℕ}
+    → UnitAt n m layout sys s stand numbers words solution → Running n m layout sys s stand numbers words solution solution
+run-begin {s = s} a = record { s′ = s; at = a; same = refl; ahead = λ k h. record { k′ = k; enough = h; follows = refl } }
+
+one-unit : (n : ℕ) (sys : List Equation) (s : State) (k : ℕ) → 0 < k → after k n sys (more s) ≡ after (k - 1) n sys (unit n sys s)
+unfolding after
+one-unit n sys s zero h = absurd (omega arith)
+one-unit n sys s (suc k) h = let e : suc k - 1 ≡ k = omega arith in rw e
+
+pub left-is : {n m : ℕ} {layout : Layout} {sys : List Equation} {s : State} {stand : Stand} {numbers words : List ℕ}
+    → Stands n m layout sys s stand numbers words → leftOf stand ≡ left s
+unfolding standOf
+left-is st = ap (λ (x : Stand). leftOf x) (st .shows .counted)
+
+module _ {n m : ℕ} {layout : Layout} {sys : List Equation} {s : State} {stand : Stand} {numbers words solution₀ solution : List ℕ}
+    (i : Running n m layout sys s stand numbers words solution₀ solution) where
+  -- what a further unit leaves
+  record Went (stand″ : Stand) (numbers″ words″ solution″ : List ℕ) : Type 0 where
+    pub s″ : State
+    pub is : unit n sys (i .s′) ≡ more s″
+    pub stands : Stands n m layout sys s″ stand″ numbers″ words″
+    pub nearer : left s″ < left (i .s′)
+    pub kept : solution″ ≡ solution
+
+  went : (b : Build) → unit n sys (i .s′) ≡ b → (stand″ : Stand) (numbers″ words″ solution″ : List ℕ)
+      → Gone n m layout sys (i .s′) b (step.More stand″) solution solution″ numbers″ words″ → Went stand″ numbers″ words″ solution″
+  went (more s″) e stand″ numbers″ words″ solution″ g = record { s″ = s″; is = e; stands = g .0; nearer = g .1; kept = g .2 }
+  went (ended unsolvable) e stand″ numbers″ words″ solution″ g = absurd g
+  went (ended (ok x)) e stand″ numbers″ words″ solution″ g = absurd g
+
+  pub run-turn : {r : Step} (stand″ : Stand) (numbers″ words″ solution″ : List ℕ) → Gone n m layout sys (i .s′) (unit n sys (i .s′)) r solution solution″ numbers″ words″ → r ≡ step.More stand″
+      → Running n m layout sys s stand″ numbers″ words″ solution₀ solution″
+  run-turn {r} stand″ numbers″ words″ solution″ g e =
+      let w = went (unit n sys (i .s′)) refl stand″ numbers″ words″ solution″
+          (subst (λ (x : Step). Gone n m layout sys (i .s′) (unit n sys (i .s′)) x solution solution″ numbers″ words″) e g) in
+      record {
+        s′ = w .s″;
+        at = record { stands = w .stands; long = ap (λ (l : List ℕ). length l) (w .kept) ∙ i .at .long };
+        same = w .kept ∙ i .same;
+        ahead = λ k h.
+          let a = i .ahead k h in let p = a .enough in let q = w .nearer in
+          record { k′ = a .k′ - 1; enough = omega arith; follows = a .follows ∙ one-unit n sys (i .s′) (a .k′) (omega arith) ∙ ap (λ (b : Build). after (a .k′ - 1) n sys b) (w .is) };
+      }
+
+  pub run-nearer : {r : Step} (stand″ : Stand) (numbers″ words″ solution″ : List ℕ) → Gone n m layout sys (i .s′) (unit n sys (i .s′)) r solution solution″ numbers″ words″ → r ≡ step.More stand″
+      → leftOf stand″ < leftOf stand
+  run-nearer {r} stand″ numbers″ words″ solution″ g e =
+      let w = went (unit n sys (i .s′)) refl stand″ numbers″ words″ solution″
+          (subst (λ (x : Step). Gone n m layout sys (i .s′) (unit n sys (i .s′)) x solution solution″ numbers″ words″) e g) in
+      let q = w .nearer in
+      rw (left-is (w .stands), left-is (i .at .stands)) q
+
+  over : (b : Build) → unit n sys (i .s′) ≡ b → (r : Step) (solution″ numbers″ words″ : List ℕ)
+      → Gone n m layout sys (i .s′) b r solution solution″ numbers″ words″ → ((x : Stand) → r ≡ step.More x → ⊥)
+      → (k : ℕ) → left s < k → Over (answerOf (after k n sys (more s))) r solution₀ solution″
+  over b e r solution″ numbers″ words″ g other k h =
+      let a = i .ahead k h in
+      let p = a .enough in
+      let f : after k n sys (more s) ≡ after (a .k′ - 1) n sys b = a .follows ∙ one-unit n sys (i .s′) (a .k′) (omega arith) ∙ ap (λ (b : Build). after (a .k′ - 1) n sys b) e in
+      by b g (f ∙ refl)
+    where
+      ends : (x : Result (List ℕ)) → after k n sys (more s) ≡ after (i .ahead k h .k′ - 1) n sys (ended x) → answerOf (after k n sys (more s)) ≡ x
+      ends x f = ap answerOf (f ∙ after-end n sys (i .ahead k h .k′ - 1) x)
+
+      refused : (r : Step) → ((x : Stand) → r ≡ step.More x → ⊥) → Gone n m layout sys (i .s′) (ended unsolvable) r solution solution″ numbers″ words″ → Over unsolvable r solution₀ solution″
+      refused (step.More x) other g = g
+      refused step.Solved other g = g
+      refused step.Unsolvable other g = g ∙ i .same
+
+      solved : (y : List ℕ) (r : Step) → ((x : Stand) → r ≡ step.More x → ⊥) → Gone n m layout sys (i .s′) (ended (ok y)) r solution solution″ numbers″ words″ → Over (ok y) r solution₀ solution″
+      solved y (step.More x) other g = g
+      solved y step.Solved other g = g
+      solved y step.Unsolvable other g = g
+
+      going : (s″ : State) (r : Step) → ((x : Stand) → r ≡ step.More x → ⊥) → Gone n m layout sys (i .s′) (more s″) r solution solution″ numbers″ words″ → ⊥
+      going s″ (step.More x) other g = other x refl
+      going s″ step.Solved other g = g
+      going s″ step.Unsolvable other g = g
+
+      by : (b : Build) → Gone n m layout sys (i .s′) b r solution solution″ numbers″ words″ → after k n sys (more s) ≡ after (i .ahead k h .k′ - 1) n sys b
+          → Over (answerOf (after k n sys (more s))) r solution₀ solution″
+      by (more s″) g f = absurd (going s″ r other g)
+      by (ended unsolvable) g f = subst (λ (x : Result (List ℕ)). Over x r solution₀ solution″) (sym (ends unsolvable f)) (refused r other g)
+      by (ended (ok y)) g f = subst (λ (x : Result (List ℕ)). Over x r solution₀ solution″) (sym (ends (ok y) f)) (solved y r other g)
+
+  pub run-solved : {r : Step} (solution″ numbers″ words″ : List ℕ) → Gone n m layout sys (i .s′) (unit n sys (i .s′)) r solution solution″ numbers″ words″ → r ≡ step.Solved
+      → (k : ℕ) → left s < k → Over (answerOf (after k n sys (more s))) step.Solved solution₀ solution″
+  run-solved {r} solution″ numbers″ words″ g e =
+      over (unit n sys (i .s′)) refl step.Solved solution″ numbers″ words″
+      (subst (λ (x : Step). Gone n m layout sys (i .s′) (unit n sys (i .s′)) x solution solution″ numbers″ words″) e g)
+      (λ x q. let z : _≡_ {A = ℕ} 0 1 = cc in omega arith)
+
+  pub run-refused : {r : Step} (solution″ numbers″ words″ : List ℕ) → Gone n m layout sys (i .s′) (unit n sys (i .s′)) r solution solution″ numbers″ words″ → r ≡ step.Unsolvable
+      → (k : ℕ) → left s < k → Over (answerOf (after k n sys (more s))) step.Unsolvable solution₀ solution″
+  run-refused {r} solution″ numbers″ words″ g e =
+      over (unit n sys (i .s′)) refl step.Unsolvable solution″ numbers″ words″
+      (subst (λ (x : Step). Gone n m layout sys (i .s′) (unit n sys (i .s′)) x solution solution″ numbers″ words″) e g)
+      (λ x q. let z : _≡_ {A = ℕ} 0 1 = cc in omega arith)

@@ -1,0 +1,5 @@
+pub mod Units
+pub mod Clearing
+pub mod Ending
+pub mod Running
+pub mod LazyCall

@@ -1,0 +1,41 @@
+// One unit, and the run as a loop of units.
+use crate::clearing::clear_row;
+use crate::filling::finish;
+use lazy_pops::Step;
+use lazy_setup::{Layout, Stand};
+
+ghost use mathlib.Core.List.{List};
+ghost use Rattle.gf2.specs.Equation.{Equation};
+ghost use Rattle.lazy.specs.Lazy.{State, unit};
+ghost use Rattle.lazy_units.specs.Units.{Gone};
+ghost use Rattle.lazy_units.specs.Ending.{UnitAt, UnitReady};
+ghost use Rattle.lazy_units.specs.Running.{Ran};
+
+// A pop while equations remain; then an outer row of the dense part, its last not counted; then the last unit.
+pub fn unit(numbers: &mut [u32], words: &mut [u64], layout: Layout, n: usize, m: usize, stand: Stand, solution: &mut [u64]) -> Step
+    requires { ⌜ UnitReady n m layout stand (now numbers) (now words) (now solution) ⌝ }
+    ensures { λ r. ⌜ ((sys : List Equation) (s : State) → UnitAt n m layout sys s stand (now (numbers .entry)) (now (words .entry)) (now (solution .entry)) → Gone n m layout sys s (unit n sys s) r (now (solution .entry)) (now (solution .exit)) (now (numbers .exit)) (now (words .exit))) ⌝ }
+{
+    if stand.remaining != 0 {
+        return lazy_pops::popping::pop(numbers, words, layout, n, m, stand);
+    }
+    if stand.done + 1 < stand.dense {
+        return clear_row(numbers, words, layout, n, m, stand);
+    }
+    finish(numbers, words, layout, n, m, stand, solution)
+}
+
+// Units until the build ends.
+pub fn run_units(numbers: &mut [u32], words: &mut [u64], layout: Layout, n: usize, m: usize, stand: Stand, solution: &mut [u64]) -> Step
+    requires { ⌜ UnitReady n m layout stand (now numbers) (now words) (now solution) ⌝ }
+    ensures { λ r. ⌜ Ran n m layout stand (now (numbers .entry)) (now (words .entry)) (now (solution .entry)) (now (solution .exit)) r ⌝ }
+{
+    let mut at = stand;
+    loop {
+        match unit(numbers, words, layout, n, m, at, solution) {
+            Step::More(next) => at = next,
+            Step::Solved => return Step::Solved,
+            Step::Unsolvable => return Step::Unsolvable,
+        }
+    }
+}

@@ -1,0 +1,43 @@
+// The whole run on lent areas: set-up, units, zeros.
+use crate::units::run_units;
+use answers::Answer;
+use lazy_pops::Step;
+use lazy_setup::{setup, Layout};
+
+ghost use mathlib.Core.Path.{_≡_};
+ghost use Prim.Native.Nat.{_≤_};
+ghost use lib.ListN.{length};
+ghost use Rattle.answers.specs.Sizes.{lazyNumbers, lazyWords};
+ghost use Rattle.system.specs.Fits.{Fits};
+ghost use Rattle.lazy_units.specs.LazyCall.{lazyRan, lazyAnswer};
+ghost use Rattle.lazy_units.specs.Units.{Over};
+
+// The build in areas that are just the room.
+fn build(n: usize, m: usize, starts: &[u32], vars: &[u32], constants: &[u64], solution: &mut [u64], numbers: &mut [u32], words: &mut [u64]) -> Step
+    requires { ⌜ Fits n m (now starts) (now vars) (now constants) × (length (now solution) ≡ n) × (length (now numbers) ≡ lazyNumbers n m (length (now vars))) × (length (now words) ≡ lazyWords m) ⌝ }
+    ensures { λ r. ⌜ Over (lazyAnswer n m (now (starts .entry)) (now (vars .entry)) (now (constants .entry))) r (now (solution .entry)) (now (solution .exit)) ⌝ }
+{
+    let stand = setup(n, m, starts, vars, constants, numbers, words);
+    let layout = Layout::of(n, m, vars.len());
+    run_units(numbers, words, layout, n, m, stand, solution)
+}
+
+// The run of a call that is not refused: the rooms are zero afterwards.
+pub fn run(n: usize, m: usize, starts: &[u32], vars: &[u32], constants: &[u64], solution: &mut [u64], numbers: &mut [u32], words: &mut [u64]) -> Answer
+    requires { ⌜ Fits n m (now starts) (now vars) (now constants) × (length (now solution) ≡ n) × (lazyNumbers n m (length (now vars)) ≤ length (now numbers)) × (lazyWords m ≤ length (now words)) ⌝ }
+    ensures { λ r. ⌜ r ≡ lazyRan n m (now (starts .entry)) (now (vars .entry)) (now (constants .entry)) (now (solution .entry)) (now (numbers .entry)) (now (words .entry)) .answer ⌝ }
+    ensures { λ _. ⌜ now (solution .exit) ≡ lazyRan n m (now (starts .entry)) (now (vars .entry)) (now (constants .entry)) (now (solution .entry)) (now (numbers .entry)) (now (words .entry)) .solution ⌝ }
+    ensures { λ _. ⌜ now (numbers .exit) ≡ lazyRan n m (now (starts .entry)) (now (vars .entry)) (now (constants .entry)) (now (solution .entry)) (now (numbers .entry)) (now (words .entry)) .numbers ⌝ }
+    ensures { λ _. ⌜ now (words .exit) ≡ lazyRan n m (now (starts .entry)) (now (vars .entry)) (now (constants .entry)) (now (solution .entry)) (now (numbers .entry)) (now (words .entry)) .words ⌝ }
+{
+    let kn = answers::lazy_numbers(n, m, vars.len());
+    let kw = answers::lazy_words(m);
+    let end = build(n, m, starts, vars, constants, solution, &mut numbers[..kn], &mut words[..kw]);
+    areas::zero::zero_numbers(numbers, 0, kn);
+    areas::zero::zero_words(words, 0, kw);
+    match end {
+        Step::Solved => Answer::Solved,
+        Step::Unsolvable => Answer::Unsolvable,
+        Step::More(_) => Answer::Unsolvable,
+    }
+}
