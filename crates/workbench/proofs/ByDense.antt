@@ -1,0 +1,14 @@
+-- The dense lines of the table, computed.
+use mathlib.Core.Path.{refl}
+use Rattle.gf2.specs.Equation.{Each, evalVars}
+use Rattle.workbench.specs.Bench.{Comes, comesTo, denseLines}
+use Rattle.areas.specs.Stretch.{stretch, put, cleared}
+use Rattle.dense_rows.specs.Bits.{bitAt, columnsFrom, emptyFrom, xorWords}
+use Rattle.dense_rows.specs.Rows.{rowAt, rowsFrom}
+use Rattle.dense_rows.specs.Steps.{pivotFrom, fromWord, swapRows, xorFrom, clearRow}
+use Rattle.dense.specs.Eliminate.{topped, column, walk, residue, pin, backSub, finish, denseElimination}
+use Rattle.dense.specs.Call.{rowRules, denseRules, denseCall}
+
+pub dense-come-out : Each Comes denseLines
+unfolding comesTo stretch put cleared evalVars bitAt columnsFrom emptyFrom xorWords rowAt rowsFrom pivotFrom fromWord swapRows xorFrom clearRow topped column walk residue pin backSub finish denseElimination rowRules denseRules denseCall
+dense-come-out = (refl, (refl, (refl, (refl, tt))))

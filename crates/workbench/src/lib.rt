@@ -1,0 +1,1 @@
+// The sums on the workbench: one table, one theorem, no code.
