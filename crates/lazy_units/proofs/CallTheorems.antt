@@ -1,0 +1,45 @@
+-- The theorems of lazy elimination, of its public call: what the solution slice holds after 0, and when the answer is 6.
+use mathlib.Core.Path.{_≡_}
+use mathlib.Core.Logic.{_↔_}
+use mathlib.Core.Bool.{Bool, true}
+use mathlib.Core.List.{List}
+use Prim.Native.Nat.{ℕ, _<_, _^_}
+use lib.ListN.{length, getD}
+use Rattle.gf2.specs.Equation.{Each, MeetsAll}
+use Rattle.gf2.specs.Span.{Cancels}
+use Rattle.gf2.specs.Ours.{Apart, ourPart}
+use Rattle.answers.specs.Calls.{Call}
+use Rattle.answers.specs.Sizes.{lazyNumbers, lazyWords}
+use Rattle.answers.specs.declared.Answer.the-variants.{Solved, Unsolvable}
+use Rattle.system.proofs.SolverCalls.{Lent, system, Runs, call-solves, call-exact, call-narrow, call-isolated}
+use Rattle.lazy.specs.Lazy.{lazyElimination}
+use Rattle.lazy.proofs.Theorems.{lazy-solves, lazy-exact, lazy-narrow, lazy-isolated}
+use Rattle.lazy_units.specs.LazyCall.{lazyCall}
+
+abbrev wordsRoom : ℕ → ℕ → ℕ → ℕ
+wordsRoom n m t = lazyWords m
+
+-- the call on what is lent
+abbrev pub lazyOn : ℕ → Lent → Call
+lazyOn n l = lazyCall n (l .m) (l .starts) (l .vars) (l .constants) (l .solution) (l .numbers) (l .words)
+
+-- no refusal from 1 to 5
+abbrev pub LazyRuns : ℕ → Lent → Type 0
+LazyRuns n l = Runs lazyElimination lazyNumbers wordsRoom lazy-solves lazy-exact lazy-narrow lazy-isolated n l
+
+pub lazyCall-solves : (n : ℕ) (l : Lent) → lazyOn n l .answer ≡ Solved → (length (lazyOn n l .solution) ≡ n) × MeetsAll (lazyOn n l .solution) (system l)
+unfolding lazyCall
+lazyCall-solves n l = call-solves lazyElimination lazyNumbers wordsRoom lazy-solves lazy-exact lazy-narrow lazy-isolated n l
+
+pub lazyCall-exact : (n : ℕ) (l : Lent) → LazyRuns n l → (lazyOn n l .answer ≡ Unsolvable) ↔ ((mask : List Bool) × Cancels mask (system l))
+unfolding lazyCall
+lazyCall-exact n l = call-exact lazyElimination lazyNumbers wordsRoom lazy-solves lazy-exact lazy-narrow lazy-isolated n l
+
+pub lazyCall-narrow : (n : ℕ) (l : Lent) (k : ℕ) → Each (λ e. e .c < 2 ^ k) (system l) → lazyOn n l .answer ≡ Solved → (v : ℕ) → getD (lazyOn n l .solution) v 0 < 2 ^ k
+unfolding lazyCall
+lazyCall-narrow n l = call-narrow lazyElimination lazyNumbers wordsRoom lazy-solves lazy-exact lazy-narrow lazy-isolated n l
+
+pub lazyCall-isolated : (P : ℕ → Bool) (n : ℕ) (a b : Lent) → Apart P (system a) → Apart P (system b) → ourPart P (system a) ≡ ourPart P (system b)
+    → lazyOn n a .answer ≡ Solved → lazyOn n b .answer ≡ Solved → (v : ℕ) → P v ≡ true → getD (lazyOn n a .solution) v 0 ≡ getD (lazyOn n b .solution) v 0
+unfolding lazyCall
+lazyCall-isolated P n a b = call-isolated lazyElimination lazyNumbers wordsRoom lazy-solves lazy-exact lazy-narrow lazy-isolated P n a b
