@@ -108,7 +108,7 @@ module _ {n m : ℕ} {layout : Layout} {sys : List Equation} {s : State} {stand 
     came : ReducedBy n m (stand .dense) (filled m (s .dense)) [] [] (outerRow (s .denseDone) (s .dense)) (drop (layout .dense) numbers′) (drop m words′) r
     came =
         let c = carried (dense-there st) (λ rows rest rest′. ReducedBy n m (stand .dense) rows rest rest′ (outerRow (stand .done) (take (stand .dense) rows)) (drop (layout .dense) numbers′) (drop m words′) r)
-            (q .reduces) in
+        (q .reduces) in
         let u : take (stand .dense) (filled m (s .dense)) ≡ s .dense = rw (dense-count st) (in-use m (s .dense)) in
         rw (u, done-count st) at c
 
@@ -116,7 +116,12 @@ module _ {n m : ℕ} {layout : Layout} {sys : List Equation} {s : State} {stand 
     clear-refused e = rw (row-refused s (refused-is came e)) tt
 
     pub clear-more : r ≡ reduction.Reduced → Going n m layout sys s (denseRow s) (step.More (record {
-      variables = stand .variables; equations = stand .equations; solved = stand .solved; dense = stand .dense; remaining = stand .remaining; done = stand .done + 1;
+      variables = stand .variables;
+      equations = stand .equations;
+      solved = stand .solved;
+      dense = stand .dense;
+      remaining = stand .remaining;
+      done = stand .done + 1;
     })) numbers′ words′
     unfolding withDense standOf
     clear-more e =
@@ -131,37 +136,49 @@ module _ {n m : ℕ} {layout : Layout} {sys : List Equation} {s : State} {stand 
         let fl : rows ++ replicate k blank ≡ filled m rows = rw l in
         let dr′ : Drawn n m (filled m rows) [] [] (drop (layout .dense) numbers′) (drop m words′) = rw fl at dr in
         let rr : Each (λ r. Rising 0 n (r .vars)) rows =
-            rw (in-use m rows) at (each-take (λ r. Rising 0 n (r .vars)) (filled m rows) (length rows) (dr′ .rising)) in
+        rw (in-use m rows) at (each-take (λ r. Rising 0 n (r .vars)) (filled m rows) (length rows) (dr′ .rising)) in
         let low : length rows ≤ m = omega arith in
         let pic : drop (layout .dense) numbers′ ≡ densePart n m rows =
-            dr′ .numbers-are ∙ append-nil (picture n (filled m rows)) ∙ sym (part-is-picture n m rows rr low) in
+        dr′ .numbers-are ∙ append-nil (picture n (filled m rows)) ∙ sym (part-is-picture n m rows rr low) in
         let wic : drop m words′ ≡ padded m (map (λ r. r .c) rows) =
-            dr′ .words-are ∙ append-nil (map constantOf (filled m rows)) ∙ sym (words-are-constants m rows) in
+        dr′ .words-are ∙ append-nil (map constantOf (filled m rows)) ∙ sym (words-are-constants m rows) in
         let p = places (st .shows .laid) in
         let psize : length (densePart n m rows) ≡ m * n + (n + m) = part-long n m rows rr low in
-        rw (row-done s rows (to .is))
-        (record {
-          fit = record {
-            lent = st .fit .lent;
-            inv = λ h. let z = a .popped in let y = remaining-count st in absurd (omega arith);
-            rising = st .fit .rising;
-            dense-rising = rr;
-            solved-in = st .fit .solved-in;
-            done-low = let c = dense-count st in let e = done-count st in let g = a .some in omega arith;
-            small = st .fit .small;
-          };
-          shows = record {
-            laid = write-end (st .shows .laid) rows (suc (s .denseDone)) psize (omega (arith, st .shows .laid .sized .dense)) (rising-narrows n rows rr) (q .numbers-kept) pic;
-            counted =
-              ap (λ (x : Stand). record {
-                variables = x .variables; equations = x .equations; solved = x .solved; dense = x .dense; remaining = x .remaining; done = x .done + 1;
-              }) (st .shows .counted)
-              ∙ ap₂ (λ (x y : ℕ). record {
-                variables = length (s .variables); equations = length (s .equations); solved = length (s .solved); dense = x; remaining = s .remaining; done = y;
-              }) (sym l) (add-one (s .denseDone));
-          };
-          words-are = write-words (st .shows .laid) rows (suc (s .denseDone)) (st .words-are) (q .words-kept) wic;
-        }, nearer (length rows) l)
+        rw (row-done s rows (to .is)) (
+          record {
+            fit = record {
+              lent = st .fit .lent;
+              inv = λ h. let z = a .popped in let y = remaining-count st in absurd (omega arith);
+              rising = st .fit .rising;
+              dense-rising = rr;
+              solved-in = st .fit .solved-in;
+              done-low = let c = dense-count st in let e = done-count st in let g = a .some in omega arith;
+              small = st .fit .small;
+            };
+            shows = record {
+              laid = write-end (st .shows .laid) rows (suc (s .denseDone)) psize (omega (arith, st .shows .laid .sized .dense)) (rising-narrows n rows rr) (q .numbers-kept) pic;
+              counted =
+                  ap (λ (x : Stand). record {
+                    variables = x .variables;
+                    equations = x .equations;
+                    solved = x .solved;
+                    dense = x .dense;
+                    remaining = x .remaining;
+                    done = x .done + 1;
+                  }) (st .shows .counted)
+                  ∙ ap₂ (λ (x y : ℕ). record {
+                    variables = length (s .variables);
+                    equations = length (s .equations);
+                    solved = length (s .solved);
+                    dense = x;
+                    remaining = s .remaining;
+                    done = y;
+                  }) (sym l) (add-one (s .denseDone));
+            };
+            words-are = write-words (st .shows .laid) rows (suc (s .denseDone)) (st .words-are) (q .words-kept) wic;
+          },
+          nearer (length rows) l,
+        )
       where
         nearer : (x : ℕ) → x ≡ length (s .dense)
             → s .remaining + length (s .variables) + (s .remaining + (x - suc (s .denseDone))) < s .remaining + length (s .variables) + (s .remaining + (length (s .dense) - s .denseDone))

@@ -43,8 +43,16 @@ part-is-picture n m dense e h =
     let p : m * n ≡ length dense * n + k * n = ap (λ (x : ℕ). x * n) q ∙ add-mul (length dense) k n in
     let z : m * n - length (laid n vs) ≡ k * n = omega arith in
     let ll : length (lengths dense) ≡ length dense = length-map dense (λ (r : Equation). length (r .vars)) in
-    rw (map-append varsOf dense (replicate k blank), blanks varsOf k, laid-append n vs (replicate k []), laid-empty n k, z,
-        map-append lengthOf dense (replicate k blank), blanks lengthOf k, ll)
+    rw (
+      map-append varsOf dense (replicate k blank),
+      blanks varsOf k,
+      laid-append n vs (replicate k []),
+      laid-empty n k,
+      z,
+      map-append lengthOf dense (replicate k blank),
+      blanks lengthOf k,
+      ll,
+    )
 
 pub words-are-constants : (m : ℕ) (dense : List Equation) → padded m (map (λ r. r .c) dense) ≡ map constantOf (filled m dense)
 unfolding padded

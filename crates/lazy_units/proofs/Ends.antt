@@ -36,8 +36,16 @@ front-and-end b x l l′ h t d =
 -- the state with another dense part
 unfoldable pub withDense : List Equation → ℕ → State → State
 withDense dense done s = record {
-  rows = s .rows; priority = s .priority; weight = s .weight; idle = s .idle; variables = s .variables; equations = s .equations; solved = s .solved;
-  dense = dense; remaining = s .remaining; denseDone = done;
+  rows = s .rows;
+  priority = s .priority;
+  weight = s .weight;
+  idle = s .idle;
+  variables = s .variables;
+  equations = s .equations;
+  solved = s .solved;
+  dense = dense;
+  remaining = s .remaining;
+  denseDone = done;
 }
 
 module _ {n m : ℕ} {layout : Layout} {sys : List Equation} {s : State} {numbers : List ℕ} (d : Laid n m layout sys s numbers) where
@@ -67,12 +75,20 @@ module _ {n m : ℕ} {layout : Layout} {sys : List Equation} {s : State} {number
       let is = front-and-end (layout .dense) (densePart n m rows) numbers numbers′ (omega arith) t e in
       let one = write-part (segmented d) 13 (layout .dense) (dense-place d) 0 (densePart n m rows) (omega arith) in
       let one′ : Segmented n m (listed n sys) (set (segments n sys s) 13 (put 0 (densePart n m rows) (getD (segments n sys s) 13 []))) numbers′ =
-          rw is (rw add-zero at one) in
+      rw is (rw add-zero at one) in
       relaid d (withDense rows k s) one′
       (ap (λ (x : List ℕ). set (segments n sys s) 13 x) (put-all (densePart n m rows) (getD (segments n sys s) 13 []) (omega arith) ∙ ap (λ (q : ℕ). densePart n q rows) (d .many)))
       (record {
-        rows = z .rows; narrow = z .narrow; weight = z .weight; variables = z .variables; idle = z .idle; priority = z .priority; equations = z .equations; solved = z .solved;
-        dense = r; dense-narrow = w;
+        rows = z .rows;
+        narrow = z .narrow;
+        weight = z .weight;
+        variables = z .variables;
+        idle = z .idle;
+        priority = z .priority;
+        equations = z .equations;
+        solved = z .solved;
+        dense = r;
+        dense-narrow = w;
       })
 
   rows-many : length (map (λ (r : Equation). r .c) (s .rows)) ≡ m

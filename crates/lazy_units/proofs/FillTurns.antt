@@ -117,7 +117,7 @@ module _ {n m : ℕ} {layout : Layout} {sys : List Equation} {s : State} {lens s
   fill-turn solution =
       let split : drop i (s .solved) ≡ one ∷ drop (i + 1) (s .solved) = rw add-one (drop-cons (s .solved) i nothing in-solved) in
       let same : set solution (one .pivot) (bitXor (rowOf (s .rows) (one .equation) .c) (evalVars (rowOf (s .rows) (one .equation) .vars) solution)) ≡ met numbers words n lens e v solution =
-          rw (vars-are, word-is, equation-is, pivot-is) in
+      rw (vars-are, word-is, equation-is, pivot-is) in
       ap (λ (l : List Solved). fill (s .rows) l solution) split ∙ ap (λ (x : List ℕ). fill (s .rows) (drop (i + 1) (s .solved)) x) same
 
 -- where the solved equations and their variables stand

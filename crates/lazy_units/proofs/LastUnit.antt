@@ -66,8 +66,11 @@ module _ {n m : ℕ} {layout : Layout} {sys : List Equation} {s : State} {stand 
   pub last-cells : LastCells n m layout stand numbers words solution
   last-cells =
       let p = places (st .shows .laid) in let w = words-long st in let c = dense-count st in let l = dense-low st in
-      record { place = omega arith; word-place = omega arith;
-        asks = (rw (tail-is (layout .dense) numbers, tail-is m words) (held (dense-there st)), omega arith, a .long) }
+      record {
+        place = omega arith;
+        word-place = omega arith;
+        asks = (rw (tail-is (layout .dense) numbers, tail-is m words) (held (dense-there st)), omega arith, a .long);
+      }
 
   module _ {x : List ℕ} {r : Reduction}
       (q : FinishedBy (finish n (take (stand .dense) (rowsOf n m (take (length numbers - layout .dense) (drop (layout .dense) numbers)) (take (length words - m) (drop m words))))) solution x r) where

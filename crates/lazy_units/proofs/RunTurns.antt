@@ -63,21 +63,21 @@ module _ {n m : ℕ} {layout : Layout} {sys : List Equation} {s : State} {stand 
       → Running n m layout sys s stand″ numbers″ words″ solution₀ solution″
   run-turn {r} stand″ numbers″ words″ solution″ g e =
       let w = went (unit n sys (i .s′)) refl stand″ numbers″ words″ solution″
-          (subst (λ (x : Step). Gone n m layout sys (i .s′) (unit n sys (i .s′)) x solution solution″ numbers″ words″) e g) in
+      (subst (λ (x : Step). Gone n m layout sys (i .s′) (unit n sys (i .s′)) x solution solution″ numbers″ words″) e g) in
       record {
         s′ = w .s″;
         at = record { stands = w .stands; long = ap (λ (l : List ℕ). length l) (w .kept) ∙ i .at .long };
         same = w .kept ∙ i .same;
         ahead = λ k h.
-          let a = i .ahead k h in let p = a .enough in let q = w .nearer in
-          record { k′ = a .k′ - 1; enough = omega arith; follows = a .follows ∙ one-unit n sys (i .s′) (a .k′) (omega arith) ∙ ap (λ (b : Build). after (a .k′ - 1) n sys b) (w .is) };
+            let a = i .ahead k h in let p = a .enough in let q = w .nearer in
+            record { k′ = a .k′ - 1; enough = omega arith; follows = a .follows ∙ one-unit n sys (i .s′) (a .k′) (omega arith) ∙ ap (λ (b : Build). after (a .k′ - 1) n sys b) (w .is) };
       }
 
   pub run-nearer : {r : Step} (stand″ : Stand) (numbers″ words″ solution″ : List ℕ) → Gone n m layout sys (i .s′) (unit n sys (i .s′)) r solution solution″ numbers″ words″ → r ≡ step.More stand″
       → leftOf stand″ < leftOf stand
   run-nearer {r} stand″ numbers″ words″ solution″ g e =
       let w = went (unit n sys (i .s′)) refl stand″ numbers″ words″ solution″
-          (subst (λ (x : Step). Gone n m layout sys (i .s′) (unit n sys (i .s′)) x solution solution″ numbers″ words″) e g) in
+      (subst (λ (x : Step). Gone n m layout sys (i .s′) (unit n sys (i .s′)) x solution solution″ numbers″ words″) e g) in
       let q = w .nearer in
       rw (left-is (w .stands), left-is (i .at .stands)) q
 

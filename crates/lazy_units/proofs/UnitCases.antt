@@ -84,7 +84,7 @@ inv-fit n sys s lent i small = record {
   rising = each-from (λ r. Rising 0 n (r .vars)) (s .rows) blank (λ e h. row-rising n sys lent s i e);
   dense-rising = dense-rising n sys lent s i;
   solved-in = each-from (λ d. (d .equation < length sys) × (d .pivot < n)) (s .solved) nothing (λ k h.
-    let g = i .in-solved .gone (getD (s .solved) k nothing .equation) (getD (s .solved) k nothing .pivot) (solves-at (s .solved) k h) in (g .2, g .3));
+      let g = i .in-solved .gone (getD (s .solved) k nothing .equation) (getD (s .solved) k nothing .pivot) (solves-at (s .solved) k h) in (g .2, g .3));
   done-low = let z = i .in-units .not-yet in omega arith;
   small = small;
 }
@@ -112,9 +112,10 @@ module _ (n m : ℕ) (layout : Layout) (sys : List Equation) (s : State) (number
 
   pop-going : Lent n sys → Inv n sys s → n ≤ maxVariables → (x : Result State) (r : Step)
       → laws.After (laws.Popped n sys s) (laws.Clash (s .rows)) x → pops.After n m layout sys x r numbers words → Going n m layout sys s x r numbers words
-  pop-going lent i small (ok s′) (step.More stand) p a =
-      (record { fit = inv-fit n sys s′ lent (p .inv) small; shows = a .0; words-are = a .1 },
-        let z = i .in-units .not-yet in let y = p .inv .in-units .not-yet in let w = p .nearer in omega arith)
+  pop-going lent i small (ok s′) (step.More stand) p a = (
+    record { fit = inv-fit n sys s′ lent (p .inv) small; shows = a .0; words-are = a .1 },
+    let z = i .in-units .not-yet in let y = p .inv .in-units .not-yet in let w = p .nearer in omega arith,
+  )
   pop-going lent i small (ok s′) step.Solved p a = a
   pop-going lent i small (ok s′) step.Unsolvable p a = a
   pop-going lent i small unsolvable (step.More stand) p a = a

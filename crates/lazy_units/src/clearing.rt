@@ -1,8 +1,8 @@
 // One outer row of the dense part.
 use lazy_pops::Step;
-use lazy_setup::{Layout, Stand};
+use lazy_setup::Layout;
+use lazy_setup::Stand;
 use sparse::echelon::Reduction;
-
 ghost use mathlib.Core.List.{List};
 ghost use Rattle.gf2.specs.Equation.{Equation};
 ghost use Rattle.lazy.specs.Lazy.{State, denseRow};
@@ -10,7 +10,15 @@ ghost use Rattle.lazy_units.specs.Units.{ClearAt, ClearReady, Going};
 ghost use Rattle.lazy_units.specs.Clearing.{ClearFits, Cleared};
 
 // Row i of the d rows that stand from `dense` on, and from word m on, meets each later one.
-fn clear_dense(numbers: &mut [u32], words: &mut [u64], dense: usize, n: usize, m: usize, d: usize, i: usize) -> Reduction
+fn clear_dense(
+    numbers: &mut [u32],
+    words: &mut [u64],
+    dense: usize,
+    n: usize,
+    m: usize,
+    d: usize,
+    i: usize,
+) -> Reduction
     requires { ⌜ ClearFits dense n m d i (now numbers) (now words) ⌝ }
     ensures { λ r. ⌜ Cleared dense n m d i (now (numbers .entry)) (now (words .entry)) (now (numbers .exit)) (now (words .exit)) r ⌝ }
 {
@@ -18,7 +26,14 @@ fn clear_dense(numbers: &mut [u32], words: &mut [u64], dense: usize, n: usize, m
 }
 
 // One outer row of the dense part, where it is not the last.
-pub fn clear_row(numbers: &mut [u32], words: &mut [u64], layout: Layout, n: usize, m: usize, stand: Stand) -> Step
+pub fn clear_row(
+    numbers: &mut [u32],
+    words: &mut [u64],
+    layout: Layout,
+    n: usize,
+    m: usize,
+    stand: Stand,
+) -> Step
     requires { ⌜ ClearReady n m layout stand (now numbers) (now words) ⌝ }
     ensures { λ r. ⌜ ((sys : List Equation) (s : State) → ClearAt n m layout sys s stand (now (numbers .entry)) (now (words .entry)) → Going n m layout sys s (denseRow s) r (now (numbers .exit)) (now (words .exit))) ⌝ }
 {

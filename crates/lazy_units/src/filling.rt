@@ -1,8 +1,8 @@
 // The last unit: the remaining checks and all filling.
 use lazy_pops::Step;
-use lazy_setup::{Layout, Stand};
+use lazy_setup::Layout;
+use lazy_setup::Stand;
 use sparse::echelon::Reduction;
-
 ghost use mathlib.Core.Path.{_≡_};
 ghost use mathlib.Core.List.{List};
 ghost use Prim.Native.Nat.{ℕ};
@@ -12,7 +12,15 @@ ghost use Rattle.lazy_units.specs.Units.{Over};
 ghost use Rattle.lazy_units.specs.Ending.{MeetFits, met, FillAt, FillReady, UnitAt, UnitReady};
 
 // The variable v gets the value that meets equation e.
-fn fill_one(numbers: &[u32], words: &[u64], n: usize, lengths: usize, e: usize, v: usize, solution: &mut [u64])
+fn fill_one(
+    numbers: &[u32],
+    words: &[u64],
+    n: usize,
+    lengths: usize,
+    e: usize,
+    v: usize,
+    solution: &mut [u64],
+)
     requires { ⌜ MeetFits (now numbers) (now words) n lengths e v (now solution) ⌝ }
     ensures { λ _. ⌜ now (solution .exit) ≡ met (now (numbers .entry)) (now (words .entry)) n lengths e v (now (solution .entry)) ⌝ }
 {
@@ -23,7 +31,16 @@ fn fill_one(numbers: &[u32], words: &[u64], n: usize, lengths: usize, e: usize, 
 }
 
 // The k solved equations are filled in, in the order solved.
-fn fill_solved(numbers: &[u32], words: &[u64], n: usize, lengths: usize, solved: usize, pivots: usize, k: usize, solution: &mut [u64])
+fn fill_solved(
+    numbers: &[u32],
+    words: &[u64],
+    n: usize,
+    lengths: usize,
+    solved: usize,
+    pivots: usize,
+    k: usize,
+    solution: &mut [u64],
+)
     requires { ⌜ FillReady n lengths solved pivots k (now numbers) (now words) (now solution) ⌝ }
     ensures { λ _. ⌜ ((m : ℕ) (layout : Layout) (sys : List Equation) (s : State) → FillAt n m layout sys s lengths solved pivots k (now (numbers .entry)) (now (words .entry)) → now (solution .exit) ≡ fill (s .rows) (s .solved) (now (solution .entry))) ⌝ }
 {
@@ -37,7 +54,15 @@ fn fill_solved(numbers: &[u32], words: &[u64], n: usize, lengths: usize, solved:
 }
 
 // What is left of the dense part is checked and solved, then the solved equations are filled in; the solution is written only where there is one.
-pub fn finish(numbers: &[u32], words: &[u64], layout: Layout, n: usize, m: usize, stand: Stand, solution: &mut [u64]) -> Step
+pub fn finish(
+    numbers: &[u32],
+    words: &[u64],
+    layout: Layout,
+    n: usize,
+    m: usize,
+    stand: Stand,
+    solution: &mut [u64],
+) -> Step
     requires { ⌜ UnitReady n m layout stand (now numbers) (now words) (now solution) ⌝ }
     ensures { λ r. ⌜ ((sys : List Equation) (s : State) → UnitAt n m layout sys s stand (now (numbers .entry)) (now (words .entry)) (now (solution .entry)) → Over (lastUnit n s) r (now (solution .entry)) (now (solution .exit))) ⌝ }
 {
@@ -45,7 +70,16 @@ pub fn finish(numbers: &[u32], words: &[u64], layout: Layout, n: usize, m: usize
     match sparse::back::finish_rows(&numbers[dense..], &words[m..], n, m, stand.dense, solution) {
         Reduction::Unsolvable => Step::Unsolvable,
         Reduction::Reduced => {
-            fill_solved(numbers, words, n, layout.lengths, layout.solved, layout.pivots, stand.solved, solution);
+            fill_solved(
+                numbers,
+                words,
+                n,
+                layout.lengths,
+                layout.solved,
+                layout.pivots,
+                stand.solved,
+                solution,
+            );
             Step::Solved
         }
     }

@@ -1,5 +1,6 @@
 // Lazy elimination in units, and its call.
-use answers::{Answer, Rules};
+use answers::Answer;
+use answers::Rules;
 
 mod clearing;
 mod filling;
@@ -10,7 +11,16 @@ ghost use mathlib.Core.Path.{_≡_};
 ghost use Rattle.lazy_units.specs.LazyCall.{lazyCall};
 
 // Solves a sparse system of `m` equations in `n` variables by lazy elimination.
-pub fn lazy_gaussian_elimination(n: usize, m: usize, starts: &[u32], vars: &[u32], constants: &[u64], solution: &mut [u64], numbers: &mut [u32], words: &mut [u64]) -> Answer
+pub fn lazy_gaussian_elimination(
+    n: usize,
+    m: usize,
+    starts: &[u32],
+    vars: &[u32],
+    constants: &[u64],
+    solution: &mut [u64],
+    numbers: &mut [u32],
+    words: &mut [u64],
+) -> Answer
     ensures { λ r. ⌜ r ≡ lazyCall n m (now (starts .entry)) (now (vars .entry)) (now (constants .entry)) (now (solution .entry)) (now (numbers .entry)) (now (words .entry)) .answer ⌝ }
     ensures { λ _. ⌜ now (solution .exit) ≡ lazyCall n m (now (starts .entry)) (now (vars .entry)) (now (constants .entry)) (now (solution .entry)) (now (numbers .entry)) (now (words .entry)) .solution ⌝ }
     ensures { λ _. ⌜ now (numbers .exit) ≡ lazyCall n m (now (starts .entry)) (now (vars .entry)) (now (constants .entry)) (now (solution .entry)) (now (numbers .entry)) (now (words .entry)) .numbers ⌝ }

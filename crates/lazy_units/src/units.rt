@@ -2,8 +2,8 @@
 use crate::clearing::clear_row;
 use crate::filling::finish;
 use lazy_pops::Step;
-use lazy_setup::{Layout, Stand};
-
+use lazy_setup::Layout;
+use lazy_setup::Stand;
 ghost use mathlib.Core.List.{List};
 ghost use Rattle.gf2.specs.Equation.{Equation};
 ghost use Rattle.lazy.specs.Lazy.{State, unit};
@@ -12,7 +12,15 @@ ghost use Rattle.lazy_units.specs.Ending.{UnitAt, UnitReady};
 ghost use Rattle.lazy_units.specs.Running.{Ran};
 
 // A pop while equations remain; then an outer row of the dense part, its last not counted; then the last unit.
-pub fn unit(numbers: &mut [u32], words: &mut [u64], layout: Layout, n: usize, m: usize, stand: Stand, solution: &mut [u64]) -> Step
+pub fn unit(
+    numbers: &mut [u32],
+    words: &mut [u64],
+    layout: Layout,
+    n: usize,
+    m: usize,
+    stand: Stand,
+    solution: &mut [u64],
+) -> Step
     requires { ⌜ UnitReady n m layout stand (now numbers) (now words) (now solution) ⌝ }
     ensures { λ r. ⌜ ((sys : List Equation) (s : State) → UnitAt n m layout sys s stand (now (numbers .entry)) (now (words .entry)) (now (solution .entry)) → Gone n m layout sys s (unit n sys s) r (now (solution .entry)) (now (solution .exit)) (now (numbers .exit)) (now (words .exit))) ⌝ }
 {
@@ -26,7 +34,15 @@ pub fn unit(numbers: &mut [u32], words: &mut [u64], layout: Layout, n: usize, m:
 }
 
 // Units until the build ends.
-pub fn run_units(numbers: &mut [u32], words: &mut [u64], layout: Layout, n: usize, m: usize, stand: Stand, solution: &mut [u64]) -> Step
+pub fn run_units(
+    numbers: &mut [u32],
+    words: &mut [u64],
+    layout: Layout,
+    n: usize,
+    m: usize,
+    stand: Stand,
+    solution: &mut [u64],
+) -> Step
     requires { ⌜ UnitReady n m layout stand (now numbers) (now words) (now solution) ⌝ }
     ensures { λ r. ⌜ Ran n m layout stand (now (numbers .entry)) (now (words .entry)) (now (solution .entry)) (now (solution .exit)) r ⌝ }
 {

@@ -2,8 +2,8 @@
 use crate::units::run_units;
 use answers::Answer;
 use lazy_pops::Step;
-use lazy_setup::{setup, Layout};
-
+use lazy_setup::Layout;
+use lazy_setup::setup;
 ghost use mathlib.Core.Path.{_≡_};
 ghost use Prim.Native.Nat.{_≤_};
 ghost use lib.ListN.{length};
@@ -13,7 +13,16 @@ ghost use Rattle.lazy_units.specs.LazyCall.{lazyRan, lazyAnswer};
 ghost use Rattle.lazy_units.specs.Units.{Over};
 
 // The build in areas that are just the room.
-fn build(n: usize, m: usize, starts: &[u32], vars: &[u32], constants: &[u64], solution: &mut [u64], numbers: &mut [u32], words: &mut [u64]) -> Step
+fn build(
+    n: usize,
+    m: usize,
+    starts: &[u32],
+    vars: &[u32],
+    constants: &[u64],
+    solution: &mut [u64],
+    numbers: &mut [u32],
+    words: &mut [u64],
+) -> Step
     requires { ⌜ Fits n m (now starts) (now vars) (now constants) × (length (now solution) ≡ n) × (length (now numbers) ≡ lazyNumbers n m (length (now vars))) × (length (now words) ≡ lazyWords m) ⌝ }
     ensures { λ r. ⌜ Over (lazyAnswer n m (now (starts .entry)) (now (vars .entry)) (now (constants .entry))) r (now (solution .entry)) (now (solution .exit)) ⌝ }
 {
@@ -23,7 +32,16 @@ fn build(n: usize, m: usize, starts: &[u32], vars: &[u32], constants: &[u64], so
 }
 
 // The run of a call that is not refused: the rooms are zero afterwards.
-pub fn run(n: usize, m: usize, starts: &[u32], vars: &[u32], constants: &[u64], solution: &mut [u64], numbers: &mut [u32], words: &mut [u64]) -> Answer
+pub fn run(
+    n: usize,
+    m: usize,
+    starts: &[u32],
+    vars: &[u32],
+    constants: &[u64],
+    solution: &mut [u64],
+    numbers: &mut [u32],
+    words: &mut [u64],
+) -> Answer
     requires { ⌜ Fits n m (now starts) (now vars) (now constants) × (length (now solution) ≡ n) × (lazyNumbers n m (length (now vars)) ≤ length (now numbers)) × (lazyWords m ≤ length (now words)) ⌝ }
     ensures { λ r. ⌜ r ≡ lazyRan n m (now (starts .entry)) (now (vars .entry)) (now (constants .entry)) (now (solution .entry)) (now (numbers .entry)) (now (words .entry)) .answer ⌝ }
     ensures { λ _. ⌜ now (solution .exit) ≡ lazyRan n m (now (starts .entry)) (now (vars .entry)) (now (constants .entry)) (now (solution .entry)) (now (numbers .entry)) (now (words .entry)) .solution ⌝ }
@@ -32,7 +50,16 @@ pub fn run(n: usize, m: usize, starts: &[u32], vars: &[u32], constants: &[u64], 
 {
     let kn = answers::lazy_numbers(n, m, vars.len());
     let kw = answers::lazy_words(m);
-    let end = build(n, m, starts, vars, constants, solution, &mut numbers[..kn], &mut words[..kw]);
+    let end = build(
+        n,
+        m,
+        starts,
+        vars,
+        constants,
+        solution,
+        &mut numbers[..kn],
+        &mut words[..kw],
+    );
     areas::zero::zero_numbers(numbers, 0, kn);
     areas::zero::zero_words(words, 0, kw);
     match end {

@@ -3,47 +3,28 @@ use native.Mathlib.Omega.{arith}
 use borrow.Author.Needs.{needs}
 use Rattle.lazy_units.proofs.clearing.clear_row.Statement.{statement}
 use Rattle.lazy_units.proofs.clearing.clear_row.Tie as tie
-use Rattle.lazy_units.proofs.clearing.clear_row.Reads as reads
-use Rattle.lazy_units.proofs.clearing.clear_row.Lts as lts
-use Rattle.lazy_units.proofs.clearing.clear_dense.Reads as clear-dense-reads
 
--- src/clearing.rt:25:11
 clear-dense-requires : tie.Need-clear-dense-requires
 clear-dense-requires c κs = clear-fits (c .before .before .before .before .pre .at)
 
--- src/clearing.rt:26:34
-enum-told : tie.Need-enum-told
-enum-told c = search needs
-
--- src/clearing.rt:28:17
-enum-told-2 : tie.Need-enum-told-2
-enum-told-2 c = search needs
-
--- src/clearing.rt:29:25
 add-next : tie.Need-add-next
 add-next c = let b = clear-fits (c .before .before .before .before .before .before .before .before .before .before .before .before .pre .at) in omega arith
 
--- src/clearing.rt:21:1
 same-length : tie.Need-same-length
 same-length c = c .before .before .before .before .before .numbers .given
 
--- src/clearing.rt:21:1
 same-length-2 : tie.Need-same-length-2
 same-length-2 c = c .before .before .before .words .given
 
--- src/clearing.rt:21:1
 returns : tie.Need-returns
 returns c = λ sys s a. clear-refused a (c .before .before .before .before .before .before .clear-dense .ensures) (c .enum-told .given .1)
 
--- src/clearing.rt:21:1
 same-length-3 : tie.Need-same-length-3
 same-length-3 c = c .before .before .before .before .before .before .numbers .given
 
--- src/clearing.rt:21:1
 same-length-4 : tie.Need-same-length-4
 same-length-4 c = c .before .before .before .before .words .given
 
--- src/clearing.rt:21:1
 returns-2 : tie.Need-returns-2
 returns-2 c = λ sys s a. clear-more a (c .before .before .before .before .before .before .before .clear-dense .ensures) (c .before .enum-told2 .given .1)
 
@@ -52,8 +33,8 @@ clear-row-spec =
     tie.close
     (tie.spec
     clear-dense-requires
-    enum-told
-    enum-told-2
+    (λ c. search needs)  -- enum-told
+    (λ c. search needs)  -- enum-told-2
     add-next
     same-length
     same-length-2

@@ -11,9 +11,6 @@ use borrow.Author.Needs.{needs}
 use native.Mathlib.Omega.{arith}
 use Rattle.lazy_units.proofs.filling.fill_solved.Statement.{statement}
 use Rattle.lazy_units.proofs.filling.fill_solved.Tie as tie
-use Rattle.lazy_units.proofs.filling.fill_solved.Reads as reads
-use Rattle.lazy_units.proofs.filling.fill_solved.Lts as lts
-use Rattle.lazy_units.proofs.filling.fill_one.Reads as fill-one-reads
 
 abbrev Inv-loop : tie.InvT-loop
 Inv-loop numbers words n lengths solved pivots k solution₀ i₀ solution i =
@@ -24,67 +21,55 @@ Inv-loop numbers words n lengths solved pivots k solution₀ i₀ solution i =
 abbrev μ-loop : tie.MeasureT-loop
 μ-loop numbers words n lengths solved pivots k solution₀ i₀ solution i = k - i
 
--- src/filling.rt:31:5
 loop-holds : tie.Need-loop-holds Inv-loop μ-loop
 loop-holds c = (refl, omega arith, λ m layout sys s a. refl)
 
--- src/filling.rt:32:25
 add-e : tie.Need-add-e Inv-loop μ-loop
 add-e c = let b = fill-cells (c .before .before .before .before .before .pre .at) in let h = c .loop-test .taken in omega arith
 
--- src/filling.rt:32:17
 mul-e : tie.Need-mul-e Inv-loop μ-loop
 mul-e c = let b = fill-cells (c .before .before .before .before .before .pre .at) in let h = c .loop-test .taken in omega arith
 
--- src/filling.rt:32:17
 shared-slice-read-e : tie.Need-shared-slice-read-e Inv-loop μ-loop
 shared-slice-read-e c = let b = fill-cells (c .before .before .before .before .before .before .pre .at) in let h = c .before .loop-test .taken in omega arith
 
--- src/filling.rt:32:17
 cast-e : tie.Need-cast-e Inv-loop μ-loop
 cast-e c = omega (arith, c .shared-slice-known3 .given (c .before .before .before .before .before .before .args .solved + c .before .before .loop .i))
 
--- src/filling.rt:33:25
 add-v : tie.Need-add-v Inv-loop μ-loop
 add-v c = let b = fill-cells (c .before .before .before .before .before .before .pre .at) in let h = c .before .loop-test .taken in omega arith
 
--- src/filling.rt:33:17
 mul-v : tie.Need-mul-v Inv-loop μ-loop
 mul-v c = let b = fill-cells (c .before .before .before .before .before .before .pre .at) in let h = c .before .loop-test .taken in omega arith
 
--- src/filling.rt:33:17
 shared-slice-read-v : tie.Need-shared-slice-read-v Inv-loop μ-loop
 shared-slice-read-v c = let b = fill-cells (c .before .before .before .before .before .before .before .pre .at) in let h = c .before .before .loop-test .taken in omega arith
 
--- src/filling.rt:33:17
 cast-v : tie.Need-cast-v Inv-loop μ-loop
 cast-v c = omega (arith, c .shared-slice-known4 .given (c .before .before .before .before .before .before .before .args .pivots + c .before .before .before .loop .i))
 
--- src/filling.rt:34:9
 fill-one-requires : tie.Need-fill-one-requires Inv-loop μ-loop
 fill-one-requires c κs = meet-fits (c .before .before .before .before .before .before .before .before .pre .at) _ (c .before .before .before .loop-test .taken) _ (c .before .before .before .before .loop .inv .0 ∙ c .before .before .before .before .before .before .before .before .pre .long)
 
--- src/filling.rt:35:9
 add-i : tie.Need-add-i Inv-loop μ-loop
 add-i c = let h = c .before .before .before .before .before .before .loop-test .taken in search needs
 
--- src/filling.rt:31:5
 loop-less : tie.Need-loop-less Inv-loop μ-loop
 loop-less c = let h = c .before .before .before .before .before .before .loop-test .taken in search needs
 
--- src/filling.rt:31:5
 loop-again : tie.Need-loop-again Inv-loop μ-loop
 loop-again c =
     let i = c .before .before .before .before .before .before .before .loop .inv in
-    let h = c .before .before .before .before .before .before .loop-test .taken in
-    (c .before .solution .given ∙ i .0, omega arith, λ m layout sys s a.
-      ap (λ (x : List ℕ). fill (s .rows) (drop (c .before .before .before .before .before .before .before .loop .i + 1) (s .solved)) x) (c .before .before .fill-one .ensures) ∙ sym (fill-turn a _ h _) ∙ i .2 m layout sys s a)
+    let h = c .before .before .before .before .before .before .loop-test .taken in (
+      c .before .solution .given ∙ i .0,
+      omega arith,
+      λ m layout sys s a.
+          ap (λ (x : List ℕ). fill (s .rows) (drop (c .before .before .before .before .before .before .before .loop .i + 1) (s .solved)) x) (c .before .before .fill-one .ensures) ∙ sym (fill-turn a _ h _) ∙ i .2 m layout sys s a,
+    )
 
--- src/filling.rt:26:1
 same-length : tie.Need-same-length Inv-loop μ-loop
 same-length c = c .before .loop .inv .0
 
--- src/filling.rt:26:1
 returns : tie.Need-returns Inv-loop μ-loop
 returns c = λ m layout sys s a. sym (fill-end a _ (c .loop-test .left) _) ∙ c .before .loop .inv .2 m layout sys s a
 

@@ -7,12 +7,8 @@ use Rattle.lazy_units.specs.Ending.{UnitAt}
 use Rattle.lazy_units.specs.Running.{leftOf}
 use Rattle.lazy_units.proofs.RunTurns.{Running, run-begin, run-turn, run-nearer, run-solved, run-refused}
 use borrow.Author.Needs.{needs}
-use native.Mathlib.Omega.{arith}
 use Rattle.lazy_units.proofs.units.run_units.Statement.{statement}
 use Rattle.lazy_units.proofs.units.run_units.Tie as tie
-use Rattle.lazy_units.proofs.units.run_units.Reads as reads
-use Rattle.lazy_units.proofs.units.run_units.Lts as lts
-use Rattle.lazy_units.proofs.units.unit.Reads as unit-reads
 
 abbrev Inv-loop : tie.InvT-loop
 Inv-loop numbers₀ words₀ layout n m solution₀ at₀ numbers words solution at =
@@ -22,69 +18,49 @@ Inv-loop numbers₀ words₀ layout n m solution₀ at₀ numbers words solution
 abbrev μ-loop : tie.MeasureT-loop
 μ-loop numbers₀ words₀ layout n m solution₀ at₀ numbers words solution at = leftOf at
 
--- src/units.rt:34:5
 loop-holds : tie.Need-loop-holds Inv-loop μ-loop
 loop-holds c = (refl, refl, refl, λ sys s a. run-begin a)
 
--- src/units.rt:35:15
 unit-requires : tie.Need-unit-requires Inv-loop μ-loop
 unit-requires c κs = let w = c .before .before .before .before .before .before .before .pre in let i = c .before .before .before .loop .inv .3 (w .sys) (w .s) (w .at) in record { sys = w .sys; s = i .s′; at = i .at }
 
--- src/units.rt:36:24
-enum-known-next : tie.Need-enum-known-next Inv-loop μ-loop
-enum-known-next c = search needs
-
--- src/units.rt:34:5
 loop-less : tie.Need-loop-less Inv-loop μ-loop
 loop-less c =
     let w = c .before .before .before .before .before .before .before .before .before .before .before .before .before .before .before .before .before .pre in let i = c .before .before .before .before .before .before .before .before .before .before .before .before .before .loop .inv .3 (w .sys) (w .s) (w .at) in
     run-nearer i _ _ _ _ (c .before .before .before .before .before .before .before .before .before .unit .ensures (w .sys) (i .s′) (i .at)) (c .before .next .given .1)
 
--- src/units.rt:34:5
 loop-again : tie.Need-loop-again Inv-loop μ-loop
 loop-again c =
     let i = c .before .before .before .before .before .before .before .before .before .before .before .before .before .loop .inv in
-    let g = c .before .next .given in
-    (c .before .before .before .before .before .before .before .before .numbers .given ∙ i .0, c .before .before .before .before .before .before .words .given ∙ i .1, c .before .before .before .before .solution .given ∙ i .2, λ sys s a.
-      run-turn (i .3 sys s a) _ _ _ _ (c .before .before .before .before .before .before .before .before .before .unit .ensures sys (i .3 sys s a .s′) (i .3 sys s a .at)) (g .1))
+    let g = c .before .next .given in (
+      c .before .before .before .before .before .before .before .before .numbers .given ∙ i .0,
+      c .before .before .before .before .before .before .words .given ∙ i .1,
+      c .before .before .before .before .solution .given ∙ i .2,
+      λ sys s a.
+          run-turn (i .3 sys s a) _ _ _ _ (c .before .before .before .before .before .before .before .before .before .unit .ensures sys (i .3 sys s a .s′) (i .3 sys s a .at)) (g .1),
+    )
 
--- src/units.rt:37:29
-enum-told : tie.Need-enum-told Inv-loop μ-loop
-enum-told c = search needs
-
--- src/units.rt:37:29
 same-length : tie.Need-same-length Inv-loop μ-loop
 same-length c = c .before .before .before .before .before .before .before .numbers .given ∙ c .before .before .before .before .before .before .before .before .before .before .before .before .loop .inv .0
 
--- src/units.rt:37:29
 same-length-2 : tie.Need-same-length-2 Inv-loop μ-loop
 same-length-2 c = c .before .before .before .before .before .words .given ∙ c .before .before .before .before .before .before .before .before .before .before .before .before .loop .inv .1
 
--- src/units.rt:37:29
 same-length-3 : tie.Need-same-length-3 Inv-loop μ-loop
 same-length-3 c = c .before .before .before .solution .given ∙ c .before .before .before .before .before .before .before .before .before .before .before .before .loop .inv .2
 
--- src/units.rt:37:29
 returns : tie.Need-returns Inv-loop μ-loop
 returns c = λ sys s a. let i = c .before .before .before .before .before .before .before .before .before .before .before .before .loop .inv .3 sys s a in run-solved i _ _ _ (c .before .before .before .before .before .before .before .before .unit .ensures sys (i .s′) (i .at)) (c .enum-told .given .1)
 
--- src/units.rt:38:33
-enum-told-2 : tie.Need-enum-told-2 Inv-loop μ-loop
-enum-told-2 c = search needs
-
--- src/units.rt:38:33
 same-length-4 : tie.Need-same-length-4 Inv-loop μ-loop
 same-length-4 c = c .before .before .before .before .before .before .before .numbers .given ∙ c .before .before .before .before .before .before .before .before .before .before .before .before .loop .inv .0
 
--- src/units.rt:38:33
 same-length-5 : tie.Need-same-length-5 Inv-loop μ-loop
 same-length-5 c = c .before .before .before .before .before .words .given ∙ c .before .before .before .before .before .before .before .before .before .before .before .before .loop .inv .1
 
--- src/units.rt:38:33
 same-length-6 : tie.Need-same-length-6 Inv-loop μ-loop
 same-length-6 c = c .before .before .before .solution .given ∙ c .before .before .before .before .before .before .before .before .before .before .before .before .loop .inv .2
 
--- src/units.rt:38:33
 returns-2 : tie.Need-returns-2 Inv-loop μ-loop
 returns-2 c = λ sys s a. let i = c .before .before .before .before .before .before .before .before .before .before .before .before .loop .inv .3 sys s a in run-refused i _ _ _ (c .before .before .before .before .before .before .before .before .unit .ensures sys (i .s′) (i .at)) (c .enum-told2 .given .1)
 
@@ -96,15 +72,15 @@ run-units-spec =
     μ-loop
     loop-holds
     unit-requires
-    enum-known-next
+    (λ c. search needs)  -- enum-known-next
     loop-less
     loop-again
-    enum-told
+    (λ c. search needs)  -- enum-told
     same-length
     same-length-2
     same-length-3
     returns
-    enum-told-2
+    (λ c. search needs)  -- enum-told-2
     same-length-4
     same-length-5
     same-length-6

@@ -3,65 +3,40 @@ use native.Mathlib.Omega.{arith}
 use borrow.Author.Needs.{needs}
 use Rattle.lazy_units.proofs.units.unit.Statement.{statement}
 use Rattle.lazy_units.proofs.units.unit.Tie as tie
-use Rattle.lazy_units.proofs.units.unit.Reads as reads
-use Rattle.lazy_units.proofs.units.unit.Lts as lts
-use Rattle.lazy_pops.proofs.popping.pop.Reads as pop-reads
-use Rattle.lazy_units.proofs.clearing.clear_row.Reads as clear-row-reads
-use Rattle.lazy_units.proofs.filling.finish.Reads as finish-reads
 
--- src/units.rt:20:9
 pop-requires : tie.Need-pop-requires
 pop-requires c κs = let w = c .before .before .before .before .before .before .before .pre in record { sys = w .sys; s = w .s; at = pop-at (w .at) (c .before .before .if1 .taken) }
 
--- src/units.rt:20:9
 same-length : tie.Need-same-length
 same-length c = c .before .before .before .numbers .given
 
--- src/units.rt:20:9
 same-length-2 : tie.Need-same-length-2
 same-length-2 c = c .before .words .given
 
--- src/units.rt:20:9
 returns : tie.Need-returns
 returns c = λ sys s a. let z = c .before .before .before .before .before .before .before .if1 .taken in pop-gone a _ _ _ z (c .before .before .before .before .pop .ensures sys s (pop-at a z))
 
--- src/units.rt:22:8
 add-if2 : tie.Need-add-if2
 add-if2 c = let b = done-fits (c .before .before .before .before .before .before .pre .at) in omega arith
 
--- src/units.rt:23:9
 clear-row-requires : tie.Need-clear-row-requires
 clear-row-requires c κs = let w = c .before .before .before .before .before .before .before .before .before .before .pre in record { sys = w .sys; s = w .s; at = clear-at (w .at) (c .before .before .before .before .before .if1 .left) (c .before .before .if2 .taken) }
 
--- src/units.rt:23:9
 same-length-3 : tie.Need-same-length-3
 same-length-3 c = c .before .before .before .numbers2 .given
 
--- src/units.rt:23:9
 same-length-4 : tie.Need-same-length-4
 same-length-4 c = c .before .words2 .given
 
--- src/units.rt:23:9
 returns-2 : tie.Need-returns-2
 returns-2 c = λ sys s a. let z = c .before .before .before .before .before .before .before .before .before .before .if1 .left in let h = c .before .before .before .before .before .before .before .if2 .taken in clear-gone a _ _ _ z h (c .before .before .before .before .clear-row .ensures sys s (clear-at a z h))
 
--- src/units.rt:25:5
 finish-requires : tie.Need-finish-requires
 finish-requires c κs = c .before .before .before .before .before .before .before .before .before .before .before .pre
 
--- src/units.rt:15:1
-same-length-5 : tie.Need-same-length-5
-same-length-5 c = search needs
-
--- src/units.rt:15:1
-same-length-6 : tie.Need-same-length-6
-same-length-6 c = search needs
-
--- src/units.rt:15:1
 same-length-7 : tie.Need-same-length-7
 same-length-7 c = c .before .solution .given
 
--- src/units.rt:15:1
 returns-3 : tie.Need-returns-3
 returns-3 c = λ sys s a. last-gone a _ _ (c .before .before .before .before .before .before .before .before .before .if1 .left) (c .before .before .before .before .before .before .if2 .left) (c .before .before .finish .ensures sys s a)
 
@@ -79,7 +54,7 @@ unit-spec =
     same-length-4
     returns-2
     finish-requires
-    same-length-5
-    same-length-6
+    (λ c. search needs)  -- same-length-5
+    (λ c. search needs)  -- same-length-6
     same-length-7
     returns-3)
