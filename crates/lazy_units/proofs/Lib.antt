@@ -9,3 +9,4 @@ pub mod RunTurns
 pub mod Opening
 pub mod Closing
 pub mod Ladder
+pub mod CallTheorems
