@@ -1,4 +1,5 @@
 pub mod Stretch
+pub mod Behind
 pub mod Offsets
 pub mod Rows
 pub mod Segments

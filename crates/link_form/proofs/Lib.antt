@@ -1,0 +1,13 @@
+pub mod Reading
+pub mod Numbers
+pub mod Scanning
+pub mod Header
+pub mod RoundTrip
+pub mod OneFile
+pub mod LaidRows
+pub mod Loadable
+pub mod Loading
+pub mod Lining
+pub mod Digits
+pub mod Said
+pub mod Examples

@@ -1,0 +1,6 @@
+pub mod Bytes
+pub mod Decimal
+pub mod Lines
+pub mod File
+pub mod Fitting
+pub mod Loading

@@ -1,0 +1,21 @@
+// The form of a link file: its numbers read, its rows laid out, its lines written.
+mod bytes;
+mod decimal;
+mod lines;
+mod load;
+mod scan;
+
+pub use bytes::read_number;
+pub use decimal::write_decimal;
+pub use lines::write_answer_line;
+pub use lines::write_header_line;
+pub use lines::write_values;
+pub use load::load_rows;
+pub use scan::Form;
+pub use scan::HEADER_BYTES;
+pub use scan::LAZY;
+pub use scan::MAX_BYTES;
+pub use scan::PEEL;
+pub use scan::SPARSE;
+pub use scan::WIDTH;
+pub use scan::read_form;
