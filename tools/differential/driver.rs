@@ -4,7 +4,7 @@
 //!     driver random SEED SECONDS       systems of every size around the word's edges
 //!     driver damaged SEED SECONDS      the same with one to three things wrong
 //!     driver limits                    the largest sizes, and one above each
-//!     driver bench ENGINE N M SEED     one call on each side between functions that callgrind can tell apart
+//!     driver bench ENGINE SIDE N M SEED TIMES     one call of one side, for counting instructions (bench.rs)
 //!
 //! Prints how many calls were compared, by engine and by the number given, and each difference's smallest input; ends with 1 if there is one.
 mod bench;
@@ -108,9 +108,9 @@ fn main() {
         Some("random") => timed(number(1), number(2), random_cases, &mut tally),
         Some("damaged") => timed(number(1), number(2), damaged_cases, &mut tally),
         Some("limits") => limits::largest(&mut tally),
-        Some("bench") => return bench::run(&words[1], number(2) as usize, number(3) as usize, number(4)),
+        Some("bench") if words.len() == 7 => return bench::run(&words[1], &words[2], number(3) as usize, number(4) as usize, number(5), number(6) as usize),
         _ => {
-            eprintln!("usage: driver exhaustive LEVEL | random SEED SECONDS | damaged SEED SECONDS | limits | bench ENGINE N M SEED");
+            eprintln!("usage: driver exhaustive LEVEL | random SEED SECONDS | damaged SEED SECONDS | limits | bench ENGINE SIDE N M SEED TIMES");
             std::process::exit(2);
         }
     }

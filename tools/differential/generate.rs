@@ -162,7 +162,8 @@ pub fn random_cases(r: &mut Random) -> Vec<Case> {
     let s = system(n, &eqs);
     let mut all = vec![];
     for _ in 0..2 {
-        let mut x = match original::sparse(n, &eqs) { Some(x) if r.below(4) > 0 => x, _ => r.words(n) };
+        let solved = std::panic::catch_unwind(|| original::sparse(n, &eqs)).ok().flatten();
+        let mut x = match solved { Some(x) if r.below(4) > 0 => x, _ => r.words(n) };
         if n > 0 && r.below(2) == 0 {
             x[r.below(n)] ^= 1 << r.below(64);
         }
