@@ -1,0 +1,16 @@
+-- What `check` says, as a number and a place: a refusal's own, 0 for yes and 6 for no.
+use Prim.Native.Nat.{ℕ}
+use Rattle.answers.specs.Numbers.{numberOf, placeOf}
+use Rattle.answers.specs.declared.Answer.the-variants.{Solved, Unsolvable}
+use Rattle.system.specs.declared.Checked.{Checked}
+use Rattle.system.specs.declared.Checked.the-variants.{Refused, Yes, No}
+
+abbrev pub toldNumber : Checked → ℕ
+toldNumber (Refused answer) = numberOf answer
+toldNumber Yes = numberOf Solved
+toldNumber No = numberOf Unsolvable
+
+abbrev pub toldPlace : Checked → ℕ
+toldPlace (Refused answer) = placeOf answer
+toldPlace Yes = placeOf Solved
+toldPlace No = placeOf Unsolvable

@@ -1,0 +1,95 @@
+//! The proved calls of the crate `exports`, lent memory with marks on both sides.
+
+unsafe extern "C" {
+    fn orohkaril_sum(left: *const u32, left_len: usize, right: *const u32, right_len: usize, left_c: u64, right_c: u64, out: *mut u32, out_len: usize, len: *mut usize, constant: *mut u64, place: *mut usize) -> u32;
+    fn orohkaril_check(n: usize, m: usize, starts: *const u32, starts_len: usize, vars: *const u32, vars_len: usize, constants: *const u64, constants_len: usize, solution: *const u64, solution_len: usize, place: *mut usize) -> u32;
+    fn orohkaril_sparse(n: usize, m: usize, starts: *const u32, starts_len: usize, vars: *const u32, vars_len: usize, constants: *const u64, constants_len: usize, solution: *mut u64, solution_len: usize, numbers: *mut u32, numbers_len: usize, words: *mut u64, words_len: usize, place: *mut usize) -> u32;
+    fn orohkaril_dense(n: usize, m: usize, w: usize, rows: *const u64, rows_len: usize, constants: *const u64, constants_len: usize, solution: *mut u64, solution_len: usize, numbers: *mut u32, numbers_len: usize, words: *mut u64, words_len: usize, place: *mut usize) -> u32;
+}
+
+/// Number and place of an answer.
+#[derive(Clone, Copy, PartialEq, Debug)]
+pub struct Answer(pub u32, pub usize);
+
+const MARGIN: usize = 4;
+
+/// A copy of lent cells between two margins, which no call may touch.
+pub struct Lent<T>(Vec<T>);
+
+impl<T: Copy + PartialEq + From<u8>> Lent<T> {
+    pub fn new(cells: &[T]) -> Self {
+        let mut all = Vec::with_capacity(cells.len() + 2 * MARGIN);
+        all.resize(MARGIN, T::from(0xA5));
+        all.extend_from_slice(cells);
+        all.resize(cells.len() + 2 * MARGIN, T::from(0x5A));
+        Lent(all)
+    }
+    pub fn len(&self) -> usize {
+        self.0.len() - 2 * MARGIN
+    }
+    fn at(&mut self) -> *mut T {
+        unsafe { self.0.as_mut_ptr().add(MARGIN) }
+    }
+    pub fn cells(&self) -> &[T] {
+        &self.0[MARGIN..self.0.len() - MARGIN]
+    }
+    pub fn margins_kept(&self) -> bool {
+        let end = self.0.len() - MARGIN;
+        self.0[..MARGIN].iter().all(|&x| x == T::from(0xA5)) && self.0[end..].iter().all(|&x| x == T::from(0x5A))
+    }
+}
+
+/// A sparse system as it is lent.
+#[derive(Clone, Debug)]
+pub struct System {
+    pub n: usize,
+    pub m: usize,
+    pub starts: Vec<u32>,
+    pub vars: Vec<u32>,
+    pub constants: Vec<u64>,
+}
+
+/// A dense system as it is lent.
+#[derive(Clone, Debug)]
+pub struct Rows {
+    pub n: usize,
+    pub m: usize,
+    pub w: usize,
+    pub rows: Vec<u64>,
+    pub constants: Vec<u64>,
+}
+
+pub struct LentAreas {
+    pub solution: Lent<u64>,
+    pub numbers: Lent<u32>,
+    pub words: Lent<u64>,
+}
+
+pub fn sparse(s: &System, a: &mut LentAreas) -> Answer {
+    let mut place = usize::MAX;
+    let number = unsafe {
+        orohkaril_sparse(s.n, s.m, s.starts.as_ptr(), s.starts.len(), s.vars.as_ptr(), s.vars.len(), s.constants.as_ptr(), s.constants.len(), a.solution.at(), a.solution.len(), a.numbers.at(), a.numbers.len(), a.words.at(), a.words.len(), &mut place)
+    };
+    Answer(number, place)
+}
+
+pub fn dense(s: &Rows, a: &mut LentAreas) -> Answer {
+    let mut place = usize::MAX;
+    let number = unsafe {
+        orohkaril_dense(s.n, s.m, s.w, s.rows.as_ptr(), s.rows.len(), s.constants.as_ptr(), s.constants.len(), a.solution.at(), a.solution.len(), a.numbers.at(), a.numbers.len(), a.words.at(), a.words.len(), &mut place)
+    };
+    Answer(number, place)
+}
+
+pub fn check(s: &System, solution: &[u64]) -> Answer {
+    let mut place = usize::MAX;
+    let number = unsafe { orohkaril_check(s.n, s.m, s.starts.as_ptr(), s.starts.len(), s.vars.as_ptr(), s.vars.len(), s.constants.as_ptr(), s.constants.len(), solution.as_ptr(), solution.len(), &mut place) };
+    Answer(number, place)
+}
+
+/// The answer, the sum's length and its constant.
+pub fn sum(left: &[u32], right: &[u32], left_c: u64, right_c: u64, out: &mut Lent<u32>) -> (Answer, usize, u64) {
+    let (mut place, mut len, mut constant) = (usize::MAX, usize::MAX, u64::MAX);
+    let number = unsafe { orohkaril_sum(left.as_ptr(), left.len(), right.as_ptr(), right.len(), left_c, right_c, out.at(), out.len(), &mut len, &mut constant, &mut place) };
+    (Answer(number, place), len, constant)
+}

@@ -1,0 +1,183 @@
+//! One call with all that it is lent, and the comparison with the Rust.
+use crate::calls::{self, Answer, Lent, LentAreas, Rows, System};
+use crate::rules;
+use std::panic::catch_unwind;
+
+#[derive(Clone, Debug)]
+pub struct Areas {
+    pub solution: Vec<u64>,
+    pub numbers: Vec<u32>,
+    pub words: Vec<u64>,
+}
+
+#[derive(Clone, Debug)]
+pub enum Case {
+    Sum { left: Vec<u32>, right: Vec<u32>, left_c: u64, right_c: u64, out: Vec<u32> },
+    Check(System, Vec<u64>),
+    Sparse(System, Areas),
+    Dense(Rows, Areas),
+}
+
+pub const ENGINES: [&str; 4] = ["sum", "check", "sparse", "dense"];
+
+impl Case {
+    pub fn engine(&self) -> usize {
+        match self {
+            Case::Sum { .. } => 0,
+            Case::Check(..) => 1,
+            Case::Sparse(..) => 2,
+            Case::Dense(..) => 3,
+        }
+    }
+
+    /// How large the input is; the smallest differing one is shown.
+    pub fn size(&self) -> usize {
+        let of = |a: &Areas| a.solution.len() + a.numbers.len() + a.words.len();
+        let ones = |c: &[u64]| c.iter().map(|c| c.count_ones() as usize).sum::<usize>();
+        match self {
+            Case::Sum { left, right, out, left_c, right_c } => left.len() + right.len() + out.len() + ones(&[*left_c, *right_c]),
+            Case::Check(s, x) => s.starts.len() + s.vars.len() + s.constants.len() + x.len() + ones(x) + ones(&s.constants),
+            Case::Sparse(s, a) => s.starts.len() + s.vars.len() + s.constants.len() + ones(&s.constants) + of(a),
+            Case::Dense(s, a) => s.rows.len() + s.constants.len() + ones(&s.rows) + ones(&s.constants) + of(a),
+        }
+    }
+}
+
+/// What a solver has to answer and to leave.
+struct Expected {
+    answer: Answer,
+    areas: Areas,
+}
+
+/// The number given, where both sides agree; else what differs.
+pub fn compare(case: &Case) -> Result<u32, String> {
+    match case {
+        Case::Sum { left, right, left_c, right_c, out } => compare_sum(left, right, *left_c, *right_c, out),
+        Case::Check(s, x) => compare_check(s, x),
+        Case::Sparse(s, a) => {
+            let mut lent = lend(a);
+            let kept = s.clone();
+            let got = calls::sparse(s, &mut lent);
+            same("starts", &s.starts, &kept.starts)?;
+            same("variables", &s.vars, &kept.vars)?;
+            same("constants", &s.constants, &kept.constants)?;
+            settle(got, &lent, expect_sparse(s, a)?)
+        }
+        Case::Dense(s, a) => {
+            let mut lent = lend(a);
+            let kept = s.clone();
+            let got = calls::dense(s, &mut lent);
+            same("rows", &s.rows, &kept.rows)?;
+            same("constants", &s.constants, &kept.constants)?;
+            settle(got, &lent, expect_dense(s, a)?)
+        }
+    }
+}
+
+fn lend(a: &Areas) -> LentAreas {
+    LentAreas { solution: Lent::new(&a.solution), numbers: Lent::new(&a.numbers), words: Lent::new(&a.words) }
+}
+
+fn same<T: PartialEq + std::fmt::Debug>(what: &str, got: &[T], expected: &[T]) -> Result<(), String> {
+    if got == expected { Ok(()) } else { Err(format!("{what}: here {got:?}, expected {expected:?}")) }
+}
+
+fn settle(got: Answer, lent: &LentAreas, e: Expected) -> Result<u32, String> {
+    if got != e.answer {
+        return Err(format!("answer: here {got:?}, expected {:?}", e.answer));
+    }
+    same("solution", lent.solution.cells(), &e.areas.solution)?;
+    same("numbers", lent.numbers.cells(), &e.areas.numbers)?;
+    same("words", lent.words.cells(), &e.areas.words)?;
+    if !(lent.solution.margins_kept() && lent.numbers.margins_kept() && lent.words.margins_kept()) {
+        return Err("a cell outside a lent slice was written".into());
+    }
+    Ok(got.0)
+}
+
+/// Refusals keep all; a run zeroes the room, and writes the solution where there is one.
+fn outcome(before: Result<(), Answer>, a: &Areas, room: (usize, usize), run: impl FnOnce() -> Option<Vec<u64>> + std::panic::UnwindSafe) -> Result<Expected, String> {
+    if let Err(answer) = before {
+        return Ok(Expected { answer, areas: a.clone() });
+    }
+    let solved = catch_unwind(run).map_err(|_| "the Rust panics".to_string())?;
+    let mut areas = a.clone();
+    areas.numbers[..room.0].fill(0);
+    areas.words[..room.1].fill(0);
+    let answer = match solved {
+        Some(x) => {
+            areas.solution = x;
+            Answer(0, 0)
+        }
+        None => Answer(6, 0),
+    };
+    Ok(Expected { answer, areas })
+}
+
+pub fn equations(s: &System) -> Vec<original::Eq> {
+    (0..s.m).map(|i| (s.vars[s.starts[i] as usize..s.starts[i + 1] as usize].to_vec(), s.constants[i])).collect()
+}
+
+fn ladder(rules: Result<(), Answer>, n: usize, a: &Areas, room: impl Fn() -> (usize, usize)) -> Result<(), Answer> {
+    rules?;
+    rules::solution(n, a.solution.len())?;
+    rules::room((a.numbers.len(), room().0), (a.words.len(), room().1))
+}
+
+fn expect_sparse(s: &System, a: &Areas) -> Result<Expected, String> {
+    let room = || rules::sparse_room(s.n, s.m);
+    let before = ladder(rules::sparse(s), s.n, a, room);
+    let room = if before.is_ok() { room() } else { (0, 0) };
+    outcome(before, a, room, || original::sparse(s.n, &equations(s)))
+}
+
+fn expect_dense(s: &Rows, a: &Areas) -> Result<Expected, String> {
+    let room = || rules::dense_room(s.m, s.w);
+    let before = ladder(rules::dense(s), s.n, a, room);
+    let room = if before.is_ok() { room() } else { (0, 0) };
+    outcome(before, a, room, || {
+        let (mut rows, mut constants) = (s.rows[..s.m * s.w].to_vec(), s.constants[..s.m].to_vec());
+        original::dense(&mut rows, &mut constants, s.m, s.w, s.n)
+    })
+}
+
+fn compare_check(s: &System, x: &[u64]) -> Result<u32, String> {
+    let got = calls::check(s, x);
+    let before = rules::sparse(s).and_then(|_| rules::solution(s.n, x.len()));
+    let expected = match before {
+        Err(answer) => answer,
+        Ok(()) => {
+            let yes = catch_unwind(|| original::check(s.n, &equations(s), x)).map_err(|_| "the Rust panics".to_string())?;
+            Answer(if yes { 0 } else { 6 }, 0)
+        }
+    };
+    if got == expected { Ok(got.0) } else { Err(format!("answer: here {got:?}, expected {expected:?}")) }
+}
+
+fn compare_sum(left: &[u32], right: &[u32], left_c: u64, right_c: u64, out: &[u32]) -> Result<u32, String> {
+    let mut lent = Lent::new(out);
+    let (got, len, constant) = calls::sum(left, right, left_c, right_c, &mut lent);
+    if !lent.margins_kept() {
+        return Err("a cell outside the output was written".into());
+    }
+    if let Err(answer) = rules::sum(left, right, out.len()) {
+        if (got, len, constant) != (answer, 0, 0) {
+            return Err(format!("answer: here {got:?} {len} {constant}, expected {answer:?} 0 0"));
+        }
+        return same("output", lent.cells(), out).map(|_| got.0);
+    }
+    let total = left.len() + right.len();
+    let rust = catch_unwind(|| original::sum(&(left.to_vec(), left_c), &(right.to_vec(), right_c))).map_err(|_| "the Rust panics".to_string())?;
+    if got != Answer(0, 0) || len > total {
+        return Err(format!("answer: here {got:?} {len}, expected a sum"));
+    }
+    let here = format!("Modulo2Equation {{ vars: {:?}, c: {:?} }}", &lent.cells()[..len], constant);
+    if here != rust {
+        return Err(format!("here {here}, the Rust {rust}"));
+    }
+    if lent.cells()[len..total].iter().any(|&v| v != 0) {
+        return Err("no zeros up to the two lengths together".into());
+    }
+    same("output past both lengths", &lent.cells()[total..], &out[total..])?;
+    Ok(0)
+}
