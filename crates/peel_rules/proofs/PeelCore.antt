@@ -215,7 +215,7 @@ within-every (b ∷ bs) [] h = absurd (omega arith)
 within-every (b ∷ bs) (e ∷ es) h = (λ _. refl, within-every bs es (omega arith))
 
 -- ---- what the run keeps, beside `Inv`
-without-length : (v : ℕ) (es : List Edge) {e : Edge} → edgeAt v es ≡ some e → length es ≡ suc (length (without v es))
+pub without-length : (v : ℕ) (es : List Edge) {e : Edge} → edgeAt v es ≡ some e → length es ≡ suc (length (without v es))
 unfolding edgeAt without
 without-length v [] h = absurd (none≢some h)
 without-length v (d ∷ es) {e} h = go (touches v d) (without-length v es) h

@@ -1,0 +1,4 @@
+pub mod SideLaws
+pub mod PictureLaws
+pub mod BuildLaws
+pub mod StepLaws

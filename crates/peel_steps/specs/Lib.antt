@@ -1,0 +1,4 @@
+pub mod Pictures
+pub mod Steps
+pub mod Gates
+pub mod Ends

@@ -1,0 +1,11 @@
+pub mod Walk
+pub mod Again
+pub mod Lent
+pub mod Loops
+pub mod Shared
+pub mod CallRules
+pub mod RunRules
+pub mod TableLaws
+pub mod PeelLaws
+pub mod RunLaws
+pub mod CallLaws
