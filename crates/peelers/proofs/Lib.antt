@@ -5,6 +5,7 @@ pub mod Loops
 pub mod Shared
 pub mod CallRules
 pub mod RunRules
+pub mod ProgramRules
 pub mod TableLaws
 pub mod PeelLaws
 pub mod RunLaws

@@ -5,7 +5,12 @@ use mathlib.Core.Bool.{Bool, true, false, cond}
 use Prim.Native.Nat.{ℕ, zero, suc, _+_, _-_, _≤_, _<_}
 use native.Mathlib.Omega.{arith}
 use native.Mathlib.Numerals.{add-one}
-use lib.ListN.{length, getD, drop, length-set}
+use lib.ListN.{length, getD, take, drop, length-set}
+use lib.Seq.{take-all}
+use lib.Dec.{ltb}
+use borrow.Author.Tests.{ltb-true, ltb-false}
+use Rattle.answers.specs.Calls.{pick}
+use Rattle.peelers.specs.Programs.{atMost256}
 use Rattle.gf2.specs.Equation.{Each}
 use Rattle.peeling.specs.declared.numbers.Edge.{Edge}
 use Rattle.peeling.specs.Graph.{Graph, graphOf}
@@ -49,6 +54,22 @@ module _ {n i : ℕ} {T : List Edge} {b : Bool} {e : Edge} (c : Checking n T i) 
 pub checking-end : {n i : ℕ} {T : List Edge} → Checking n T i → length T ≤ i → i ≡ badEdge n T
 unfolding badEdge
 checking-end {n} {i} {T} c h = let p : badEdge n (drop i T) ≡ 0 = ap (badEdge n) (drop-end T i h) in omega (arith, c .is, p)
+
+-- ---- the first m of 256
+
+pub within-256 : (m : ℕ) → atMost256 m ≤ 256
+within-256 m = go (ltb 256 m) refl
+  where
+    go : (t : Bool) → ltb 256 m ≡ t → pick t 256 m ≤ 256
+    go true q = omega arith
+    go false q = ltb-false 256 m q
+
+pub first-256 : (m : ℕ) (l : List Edge) → length l ≡ 256 → take (atMost256 m) l ≡ take m l
+first-256 m l h = go (ltb 256 m) refl
+  where
+    go : (t : Bool) → ltb 256 m ≡ t → take (pick t 256 m) l ≡ take m l
+    go true q = take-all 256 l (omega arith) ∙ sym (take-all m l (omega (arith, ltb-true 256 m q)))
+    go false q = refl
 
 -- ---- what the rule says of an edge
 pub is-valid : (n : ℕ) (e : Edge) → isValid n e ≡ true → Valid n e

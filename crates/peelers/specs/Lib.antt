@@ -1,1 +1,3 @@
 pub mod Run
+pub mod Lookups
+pub mod Programs
