@@ -2,8 +2,7 @@
 use mathlib.Core.Path.{_≡_, refl, sym, ap, _∙_, subst}
 use mathlib.Core.List.{List}
 use mathlib.Core.Bool.{Bool, true, false, _&&_, true≢false}
-use Prim.Native.Nat.{ℕ, _≤_}
-use native.Mathlib.Omega.{arith}
+use Prim.Native.Nat.{ℕ}
 use lib.ListN.{length}
 use lib.Dec.{eqb, leb, ltb}
 use borrow.Author.Tests.{leb-true, ltb-false, eqb-true}
@@ -11,11 +10,13 @@ use Rattle.answers.specs.Sizes.{maxVariables, maxEquations}
 use Rattle.peeling.specs.declared.numbers.Edge.{Edge}
 use Rattle.peel_rules.specs.Edges.{badEdge}
 use Rattle.peel_rules.proofs.PeelTheorems.{all-valid}
+use Rattle.peel_rules.specs.Calls.{peelHighCall, peelLowCall}
 use Rattle.peel_steps.specs.declared.ends.Peeling.{Peeling}
 use Rattle.peel_steps.specs.declared.rules.Gate.{Gate}
 use Rattle.peel_steps.specs.Pictures.{numbersRoom, bytesRoom}
 use Rattle.peel_steps.specs.Gates.{gateOf}
-use Rattle.peelers.specs.Run.{Admitted, Leaves, runCall, peelingCall}
+use Rattle.peel_runs.specs.Runs.{Admitted, Leaves, runCall}
+use Rattle.peelers.specs.Run.{peelingCall}
 
 both : (a b : Bool) → (a && b) ≡ true → (a ≡ true) × (b ≡ true)
 both true b h = (refl, h)
@@ -37,6 +38,7 @@ module _ (high : Bool) (n : ℕ) (T : List Edge) (cells numbers bytes : List ℕ
   -- a call that is not refused is admitted, and its run is the call
   pub let-in : gate .opened ≡ true → Admitted high n (length T) T cells numbers bytes
       × ((r : Peeling) (x d b : List ℕ) → Leaves (runCall high n T cells numbers bytes) r x d b → Leaves (peelingCall high n T cells numbers bytes) r x d b)
+  unfolding peelingCall runCall
   let-in h = go sizes refl bad refl (eqb (length cells) n) refl room refl h
     where
       go : (p : Bool) → sizes ≡ p → (q : Bool) → bad ≡ q → (t : Bool) → eqb (length cells) n ≡ t → (u : Bool) → room ≡ u → gate .opened ≡ true
@@ -64,6 +66,7 @@ module _ (high : Bool) (n : ℕ) (T : List Edge) (cells numbers bytes : List ℕ
 
   -- a call that is refused leaves everything as lent
   pub turned-away : (r : Peeling) → gate .opened ≡ false → r ≡ gate .refusal → Leaves (peelingCall high n T cells numbers bytes) r cells numbers bytes
+  unfolding peelingCall
   turned-away r h e = go sizes refl bad refl (eqb (length cells) n) refl room refl h e
     where
       go : (p : Bool) → sizes ≡ p → (q : Bool) → bad ≡ q → (t : Bool) → eqb (length cells) n ≡ t → (u : Bool) → room ≡ u → gate .opened ≡ false → r ≡ gate .refusal
@@ -92,3 +95,13 @@ module _ (high : Bool) (n : ℕ) (T : List Edge) (cells numbers bytes : List ℕ
 
   pub refusal-leaves : open? ≡ false → {r : Peeling} → r ≡ gateOf high n m low (length cells) (length numbers) (length bytes) .refusal → Leaves (peelingCall high n T cells numbers bytes) r cells numbers bytes
   refusal-leaves q {r} e = turned-away high n T cells numbers bytes r (sym is-open ∙ q) (e ∙ ap (λ (g : Gate). g .refusal) same)
+
+-- ---- the call of either peeler
+
+pub high-leaves : (n : ℕ) (T : List Edge) (cells numbers bytes : List ℕ) {r : Peeling} {x d b : List ℕ} → Leaves (peelingCall true n T cells numbers bytes) r x d b → Leaves (peelHighCall n T cells numbers bytes) r x d b
+unfolding peelingCall
+high-leaves n T cells numbers bytes l = l
+
+pub low-leaves : (n : ℕ) (T : List Edge) (cells numbers bytes : List ℕ) {r : Peeling} {x d b : List ℕ} → Leaves (peelingCall false n T cells numbers bytes) r x d b → Leaves (peelLowCall n T cells numbers bytes) r x d b
+unfolding peelingCall
+low-leaves n T cells numbers bytes l = l

@@ -2,13 +2,14 @@
 ghost use mathlib.Core.Path.{_≡_};
 ghost use mathlib.Core.Bool.{true, false};
 ghost use Rattle.peel_rules.specs.Calls.{peelLowCall, peelHighCall};
-ghost use Rattle.peelers.specs.Run.{Judged, Leaves, peelingCall};
-use crate::run::run_peeler;
-use crate::table::bad_edge;
-use crate::table::edge_count;
+ghost use Rattle.peel_runs.specs.Runs.{Leaves};
+ghost use Rattle.peelers.specs.Run.{Judged, peelingCall};
+use peel_runs::run::run_peeler;
 use peel_steps::ends::Peeling;
 use peel_steps::rules::opens;
 use peel_steps::rules::refusal;
+use peel_walks::table::bad_edge;
+use peel_walks::table::edge_count;
 use peeling::numbers::Edge;
 
 // The run, or the refusal where it is not allowed.

@@ -1,27 +1,26 @@
 -- `enter` meets its contract.
 -- A walk of the MIR: the calls are rules of this crate's files, and all that is known of a callee is its contract. Assumes nothing.
-use Rattle.peelers.proofs.Walk.{_≡_, refl, sym, _∙_, ap, subst, ℕ, suc, _+_, _*_, _-_, _<_, _≤_, _^_, arith, List, [], _∷_, Bool, true, false, not, length, getD, T, ltb, ltb→lt, nltb→le, lit<, URA, fullShare, Ty, Place, Operand, Code, Lifetime, named, erased, imm, mut, w8, w16, w32, w64, tyInt, tyBool, tyUnit, tyRef, tyPtr, Val, vunit, vbool, vint, vptr, vstruct, vnil, vcons, SProp, ent, sep, emp, via, fst∗, snd∗, exE, id⊢, Lft, GName, Share, Fml, ftrue, fat, froom, fdies, flft, fobs, fbor, Memory, Routine, Heap, Calls, Loops, Env, Wp, WpFn, Tables, atReturn, afterTurn, Atoms, sem, Fun, fact, givenOf, tables, tablesOf, Given, Item, After, Seq, Step, step, Soaks, Goal, ‵, raw, given, _⊛_, some, later, ⋆, anyQ, atRet, runs, lands, _$_, _∵_, !, qed, by, move, keep, let-go, use0, use1, use2, use3, split, join, learn, pick, rewrite, fsplit, fsplit3, fjoin, fjoin3, feqL, feqI, fltI, suffices, frame, await, done, agg, whole, sub, look-in, store-in, Opds, look, look-raw, store, store-raw, init, forget, stop, hop, fld, from, load, lit, addr, unit-lit, true-lit, false-lit, of-opd, bin, un, and-then, no-more, assigns, assigns-last, land, land-last, first, blocks, branches, skips, jumps, loops, again, returns, returns-within, enter, alloc1, alloc0, params1, pass1, pass0, free1, free0, exec, Body, lft-new, lft-end, FmC, fmOf, WpFn-mono, yes, RattleType, owns, Is, shows, mem, pointee, uint-makes, uint-vals, uint-tells, uint-lawful, bool-makes, bool-vals, bool-tells, bool-lawful, nothing-makes, nothing-lawful, u8, u16, u32, u64, usize, bool, unit, RefT, MutRef, ShrRef, now, ptr-vals, mut-tells, shr-tells, plain, sliceTy, sliceVal, ShrSlice, MutSlice, Room, finally, slice-vals, shr-slice-tells, shr-slice-copy, mut-slice-tells, place-is, elem-out, elem-back, looks-slice, shuts-slice, only, opens, closes, looks, shuts, peeks, facts, owned, heard, nothing, spelt, Contract, Triple, calls-at, calls-at-last, ensured, lasts, Vals, onEntry, Meets, tripleOf, entered, cited, says, needs, Stays, stay-none, stay-none-slice, stay-none-ref, stay-slice, gave-slice, stay-ref, gave-ref, walkOf, Walks, ends-at, walked, goes-none, goes-none-slice, goes-none-ref, goes-slice, goes-gave-slice, goes-ref, goes-gave-ref, walk-meets}
+use Rattle.walk_rules.proofs.Walk.{_≡_, refl, ℕ, _<_, _^_, List, [], _∷_, Bool, length, URA, named, w64, Val, vbool, vint, SProp, ent, Lft, Share, ftrue, flft, Memory, Routine, Heap, WpFn, Tables, Atoms, Fun, givenOf, tables, tablesOf, Given, ‵, _⊛_, ⋆, _$_, _∵_, !, qed, by, move, let-go, split, join, fsplit, fjoin, suffices, frame, done, agg, whole, sub, look-in, look, init, forget, stop, hop, fld, from, load, addr, of-opd, and-then, no-more, assigns, land, skips, returns, returns-within, enter, alloc1, alloc0, params1, pass1, pass0, free1, free0, FmC, fmOf, WpFn-mono, yes, owns, Is, mem, uint-vals, uint-tells, bool-vals, bool-tells, u8, u32, u64, usize, bool, RefT, now, plain, ShrSlice, MutSlice, Room, slice-vals, shr-slice-tells, mut-slice-tells, only, owned, nothing, Triple, Vals, onEntry, Meets, tripleOf, entered, cited, says, needs, Stays, stay-none-slice, stay-slice, walkOf, Walks, ends-at, walked, goes-none-slice, goes-slice, walk-meets}
 use denote.Struct.Laws as LL
 use denote.Triple.Walked.{stay-dropped, goes-dropped}
 use Rattle.peeling.specs.declared.numbers.Edge.{Edge}
 use Rattle.peeling.proofs.numbers.Edge as Edgeᴿ
-use Rattle.peeling.proofs.numbers.Edge.Laws as Edgeᴸ
 use Rattle.peel_steps.specs.declared.ends.Peeling.{Peeling}
 use Rattle.peel_steps.proofs.ends.Peeling as Peelingᴿ
 use Rattle.peel_steps.proofs.ends.Peeling.Laws as Peelingᴸ
-use Rattle.peelers.proofs.Loops.{tests, while-then, forks, falls, drop-at, is-true, is-false}
-use Rattle.peelers.proofs.Lent.{val, Shr, Mut}
-use Rattle.peelers.proofs.RunRules.{RunPeelerᶜ, calls-run-peeler, Refusalᶜ, calls-refusal}
-use Rattle.peelers.proofs.run.run_peeler.Symbol as run-peeler-def
-use Rattle.peelers.proofs.run.run_peeler.Met as run-peeler-thm
+use Rattle.walk_rules.proofs.Loops.{forks, is-true, is-false}
+use Rattle.walk_rules.proofs.Lent.{val, Shr, Mut}
+use Rattle.peelers.proofs.CallRules.{RunPeelerᶜ, calls-run-peeler, Refusalᶜ, calls-refusal}
+use Rattle.peel_runs.proofs.run.run_peeler.Symbol as run-peeler-def
+use Rattle.peel_runs.proofs.run.run_peeler.Met as run-peeler-thm
 use Rattle.peel_steps.proofs.rules.refusal.Symbol as refusal-def
 use Rattle.peel_steps.proofs.rules.refusal.Met as refusal-thm
 use Rattle.peelers.proofs.calls.enter.Key.{name as #self}
 use Rattle.peelers.proofs.calls.enter as self
 use Rattle.peelers.proofs.calls.enter.Statement as stated
 use Rattle.peelers.proofs.calls.enter.Code as code
-use lib.Dec.{eqb, leb}
-use Rattle.peelers.specs.Run.{Judged, Leaves, peelingCall}
+use Rattle.peelers.specs.Run.{Judged, peelingCall}
+use Rattle.peel_runs.specs.Runs.{Leaves}
 use Rattle.peelers.proofs.CallLaws.{run-asks, run-leaves, refusal-leaves}
 
 abbrev stayed : Stays (self.ended .signature .params) (self.ended .kept)
@@ -93,5 +92,5 @@ enter-spec 𝓤 H 𝓜 𝓖 𝓡 =
     entered 𝓤 H (tripleOf 𝓤 H (𝓖 .A) self.signature (self.spec 𝓤 H (𝓖 .A) (𝓜 .mem) (𝓡 .run)))
     (tables 𝓤 H 𝓜 𝓡 code.env .C) (tables 𝓤 H 𝓜 𝓡 code.env .Λ) #self code.function (code.unfolded 𝓤 H 𝓜 𝓡)
     (meets 𝓤 H (𝓖 .A) (givenOf 𝓤 H 𝓜 𝓖) (𝓜 .mem) (𝓡 .run) (tablesOf 𝓤 H 𝓜 (tables 𝓤 H 𝓜 𝓡 code.env))
-    (cited 𝓤 H (RunPeelerᶜ 𝓤 H (𝓖 .A) (𝓜 .mem) (𝓡 .run)) 𝓜 𝓡 code.env run-peeler-def.name run-peeler-def.routine code.calls-peelers·run·run-peeler (run-peeler-thm.met 𝓤 H 𝓜 𝓖 𝓡))
+    (cited 𝓤 H (RunPeelerᶜ 𝓤 H (𝓖 .A) (𝓜 .mem) (𝓡 .run)) 𝓜 𝓡 code.env run-peeler-def.name run-peeler-def.routine code.calls-peel-runs·run·run-peeler (run-peeler-thm.met 𝓤 H 𝓜 𝓖 𝓡))
     (cited 𝓤 H (Refusalᶜ 𝓤 H (𝓖 .A) (𝓜 .mem) (𝓡 .run)) 𝓜 𝓡 code.env refusal-def.name refusal-def.routine code.calls-peel-steps·rules·refusal (refusal-thm.met 𝓤 H 𝓜 𝓖 𝓡)))
