@@ -1,0 +1,24 @@
+-- The rows of a file of edges as a table, and the peeler's call on it.
+use mathlib.Core.List.{List, [], _∷_}
+use Prim.Native.Nat.{ℕ}
+use lib.ListN.{getD}
+use Rattle.gf2.specs.Equation.{Equation}
+use Rattle.peeling.specs.declared.numbers.Edge.{Edge}
+use Rattle.peel_rules.specs.Edges.{edge}
+use Rattle.peel_rules.specs.Calls.{PeelCall, peelLowCall}
+use Rattle.link_form.specs.Lent.{lentNumbers, lentBytes, zeros}
+
+-- a row's three variables, at sides 0, 1 and 2, and its constant
+unfoldable pub edgeOf : Equation → Edge
+edgeOf r = edge (getD (r .vars) 0 0) (getD (r .vars) 1 0) (getD (r .vars) 2 0) (r .c)
+
+unfoldable pub edgesOf : List Equation → List Edge
+edgesOf [] = []
+edgesOf (r ∷ rows) = edgeOf r ∷ edgesOf rows
+
+-- the low-memory peeler on work areas that are zero
+abbrev pub lentCall : ℕ → List Edge → List ℕ → PeelCall
+lentCall n es solution = peelLowCall n es solution (zeros lentNumbers) (zeros lentBytes)
+
+abbrev pub edgesCall : ℕ → List Equation → List ℕ → PeelCall
+edgesCall n rows solution = lentCall n (edgesOf rows) solution
