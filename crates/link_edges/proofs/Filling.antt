@@ -3,18 +3,18 @@ use mathlib.Core.Path.{_≡_, refl, sym, ap, ap₂, _∙_}
 use mathlib.Core.List.{List, [], _∷_, _++_}
 use mathlib.Core.Option.{some}
 use Prim.Native.Nat.{ℕ, zero, suc, _+_, _-_, _*_, _≤_, _<_}
-use native.Mathlib.Numerals.{add-one}
 use native.Mathlib.Omega.{arith}
-use lib.ListN.{length, take, drop, set, length-set, length-drop}
-use lib.Seq.{drop-drop, take-add, take-all, take-suc-set}
+use lib.ListN.{length, take, drop, set, replicate, length-set, length-drop, length-replicate}
+use lib.Seq.{drop-drop, take-add, take-all, length-take-le}
 use Rattle.gf2.specs.Equation.{Equation}
 use Rattle.peeling.specs.declared.numbers.Edge.{Edge}
-use Rattle.link_form.specs.File.{maxBytes, peelKind, rowBytes, row, readRows}
-use Rattle.link_form.specs.Lent.{mostRows}
+use Rattle.peel_rules.specs.Machine.{noEdge}
+use Rattle.link_form.specs.File.{maxBytes, peelKind, width, headerBytes, rowBytes, row, readRows}
+use Rattle.link_form.specs.Lent.{mostRows, Served, fileRows}
 use Rattle.link_form.proofs.Scanning.{length-rows}
 use Rattle.link_form.proofs.RoundTrip.{taken}
-use Rattle.link_edges.specs.Edges.{edgeOf, edgesOf}
-use Rattle.link_edges.proofs.Laws.{edges-append}
+use Rattle.link_edges.specs.Edges.{edgeOf, edgesOf, tableOf}
+use Rattle.link_edges.proofs.Laws.{table-edges, table-more}
 use Rattle.link_edges.proofs.EdgeRows.{edge-bytes}
 
 -- i of m edges stand in the table, and the next begins at p
@@ -27,12 +27,12 @@ pub record Filling (bytes : List ℕ) (w m : ℕ) (rows : List Equation) (p i : 
   pub many : length rows ≡ m
   pub long : length table ≡ mostRows
   pub reads : readRows peelKind w (m - i) (drop p bytes) ≡ some (drop i rows)
-  pub laid : take i table ≡ edgesOf (take i rows)
+  pub laid : table ≡ tableOf (take i rows)
 
 pub filling-begin : {bytes : List ℕ} {w m at : ℕ} {rows : List Equation} {table : List Edge} → readRows peelKind w m (drop at bytes) ≡ some rows
-    → at ≤ length bytes → length bytes ≤ maxBytes → w ≤ 4 → m ≤ mostRows → length table ≡ mostRows → Filling bytes w m rows at 0 table
-unfolding edgesOf
-filling-begin {bytes} {w} {m} {at} {rows} e g s n f l =
+    → at ≤ length bytes → length bytes ≤ maxBytes → w ≤ 4 → m ≤ mostRows → table ≡ replicate mostRows noEdge → Filling bytes w m rows at 0 table
+unfolding edgesOf tableOf
+filling-begin {bytes} {w} {m} {at} {rows} e g s n f t =
     let z : m - 0 ≡ m = omega arith in
     record {
       done = omega arith;
@@ -41,9 +41,9 @@ filling-begin {bytes} {w} {m} {at} {rows} e g s n f l =
       narrow = n;
       few = f;
       many = length-rows peelKind w m (drop at bytes) rows e;
-      long = l;
+      long = ap length t ∙ length-replicate mostRows noEdge;
       reads = rw z e;
-      laid = refl;
+      laid = t;
     }
 
 -- the row that is read next, and those after it
@@ -74,11 +74,10 @@ filling-room f h = next f h .there
 
 pub filling-turn : {bytes : List ℕ} {w m : ℕ} {rows : List Equation} {p i : ℕ} {table : List Edge} {e : Edge} → Filling bytes w m rows p i table → i < m
     → e ≡ edgeOf (row peelKind w (drop p bytes)) → Filling bytes w m rows (p + (3 * w + 8)) (i + 1) (set table i e)
-unfolding edgesOf
 filling-turn {bytes} {w} {m} {rows} {p} {i} {table} {e} f h is =
     let n = next f h in
     let b = f .few in
-    let l = f .long in
+    let il : length (take i rows) ≡ i = length-take-le i rows (omega (arith, f .many)) in
     record {
       done = omega arith;
       inside = omega (arith, n .there);
@@ -86,17 +85,20 @@ filling-turn {bytes} {w} {m} {rows} {p} {i} {table} {e} f h is =
       narrow = f .narrow;
       few = b;
       many = f .many;
-      long = simp length-set l;
+      long = simp length-set (f .long);
       reads = n .reads;
       laid =
-          ap (λ (k : ℕ). take k (set table i e)) (add-one i)
-          ∙ take-suc-set table i e (omega arith)
-          ∙ ap₂ (λ (es : List Edge) (x : Edge). es ++ (x ∷ [])) (f .laid) is
-          ∙ sym (ap edgesOf (n .more) ∙ edges-append (take i rows) (row peelKind w (drop p bytes) ∷ []));
+          ap₂ (λ (t : List Edge) (x : Edge). set t i x) (f .laid) is
+          ∙ ap (λ (k : ℕ). set (tableOf (take i rows)) k (edgeOf (row peelKind w (drop p bytes)))) (sym il)
+          ∙ table-more (take i rows) (row peelKind w (drop p bytes)) (omega arith)
+          ∙ ap tableOf (sym (n .more));
     }
 
-pub filling-end : {bytes : List ℕ} {w m : ℕ} {rows : List Equation} {p i : ℕ} {table : List Edge} → Filling bytes w m rows p i table → m ≤ i → take m table ≡ edgesOf rows
-filling-end {m = m} {rows = rows} {i = i} f h =
-    let d = f .done in
-    let e : i ≡ m = omega arith in
-    rw e at (f .laid) ∙ ap edgesOf (take-all m rows (omega (arith, f .many)))
+pub filling-end : {bytes : List ℕ} {w m : ℕ} {rows : List Equation} {p i : ℕ} {table : List Edge} → Filling bytes w m rows p i table → m ≤ i → table ≡ tableOf rows
+filling-end {rows = rows} {i = i} f h = f .laid ∙ ap tableOf (take-all i rows (omega (arith, f .many)))
+
+-- what the peeler is lent of the table
+pub table-lent : {n m : ℕ} {bytes : List ℕ} {table : List Edge} → Served peelKind n m bytes → table ≡ tableOf (fileRows peelKind m bytes) → take m table ≡ edgesOf (fileRows peelKind m bytes)
+table-lent {n} {m} {bytes} served t =
+    let rows : List Equation = fileRows peelKind m bytes in
+    ap₂ take (sym (length-rows peelKind width m (drop headerBytes bytes) rows (served .whole))) t ∙ table-edges rows

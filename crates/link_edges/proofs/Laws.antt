@@ -1,23 +1,15 @@
--- The edges of rows: as many, in their order, and nothing lost.
-use mathlib.Core.Path.{_≡_, refl, ap, ap₂, subst}
-use mathlib.Core.List.{List, [], _∷_, _++_, map}
-use mathlib.Core.Option.{some}
-use Prim.Native.Nat.{ℕ, zero, suc}
+-- The edges of rows and their table: as many, in their order.
+use mathlib.Core.Path.{_≡_, refl, sym, ap, _∙_}
+use mathlib.Core.List.{List, [], _∷_, _++_, append-assoc}
+use Prim.Native.Nat.{ℕ, suc, _-_, _<_}
 use native.Mathlib.Omega.{arith}
-use lib.ListN.{length, drop}
-use lib.Bits.{xor-zero-r}
-use Rattle.gf2.specs.Equation.{Equation, eqn, Each, evalVars, Meets, MeetsAll}
-use Rattle.answers.specs.declared.Answer.the-variants.{Solved}
+use lib.ListN.{length, take, set, replicate, length-append}
+use lib.Seq.{take-at, set-at}
+use Rattle.gf2.specs.Equation.{Equation}
 use Rattle.peeling.specs.declared.numbers.Edge.{Edge}
-use Rattle.peel_rules.specs.Peel.{edgeXor, Met}
-use Rattle.peel_rules.proofs.PeelCalls.{call-solved}
-use Rattle.peel_rules.proofs.PeelTheorems.{peel-solves}
-use Rattle.answers.specs.Sizes.{peelLowNumbers, peelLowBytes}
-use Rattle.link_form.specs.File.{peelKind, count, rowBytes, readRows}
-use Rattle.link_form.specs.Lent.{lentNumbers, lentBytes, zeros}
-use Rattle.link_form.proofs.Scanning.{length-row}
-use Rattle.link_form.proofs.RoundTrip.{taken}
-use Rattle.link_edges.specs.Edges.{edgeOf, edgesOf, edgesCall}
+use Rattle.peel_rules.specs.Machine.{noEdge}
+use Rattle.link_form.specs.Lent.{mostRows}
+use Rattle.link_edges.specs.Edges.{edgeOf, edgesOf, tableOf}
 
 pub length-edges : (rows : List Equation) → length (edgesOf rows) ≡ length rows
 unfolding edgesOf
@@ -29,55 +21,18 @@ unfolding edgesOf
 edges-append [] more = refl
 edges-append (r ∷ rows) more = ap (λ (es : List Edge). edgeOf r ∷ es) (edges-append rows more)
 
--- ---- rows of three variables
+-- ---- the table
 
-abbrev pub Three : Equation → Type 0
-Three r = length (r .vars) ≡ 3
+-- the rows' edges stand first
+pub table-edges : (rows : List Equation) → take (length rows) (tableOf rows) ≡ edgesOf rows
+unfolding tableOf
+table-edges rows = take-at (edgesOf rows) (replicate (mostRows - length rows) noEdge) (length rows) (length-edges rows)
 
--- an edge as a row
-abbrev pub rowOf : Edge → Equation
-rowOf e = eqn (e .a .0 ∷ e .b .0 ∷ e .c .0 ∷ []) (e .value)
-
-row-kept : (r : Equation) → Three r → rowOf (edgeOf r) ≡ r
-row-kept r h = kept (r .vars) (r .c) h
-  where
-    kept : (vs : List ℕ) (d : ℕ) → length vs ≡ 3 → rowOf (edgeOf (eqn vs d)) ≡ eqn vs d
-    kept [] d h = absurd (omega arith)
-    kept (a ∷ []) d h = absurd (omega arith)
-    kept (a ∷ b ∷ []) d h = absurd (omega arith)
-    kept (a ∷ b ∷ c ∷ []) d h = unfold edgeOf in refl
-    kept (a ∷ b ∷ c ∷ e ∷ more) d h = absurd (omega arith)
-
--- the edges are the rows in another form
-pub edges-kept : (rows : List Equation) → Each Three rows → map rowOf (edgesOf rows) ≡ rows
-unfolding edgesOf
-edges-kept [] t = refl
-edges-kept (r ∷ rows) t = ap₂ (λ (x : Equation) (xs : List Equation). x ∷ xs) (row-kept r (t .0)) (edges-kept rows (t .1))
-
--- every row of a file of edges has three
-pub edges-three : (w m : ℕ) (bytes : List ℕ) (rows : List Equation) → readRows peelKind w m bytes ≡ some rows → Each Three rows
-unfolding readRows count
-edges-three w zero [] rows e = let q : rows ≡ [] = cc in rw q tt
-edges-three w zero (b ∷ bytes) rows e = absurd (let z : _≡_ {A = ℕ} 0 1 = cc in omega arith)
-edges-three w (suc m) bytes rows e =
-    let t = taken peelKind w m bytes rows e in
-    rw (t .all) (length-row peelKind w bytes, edges-three w m (drop (rowBytes peelKind w bytes) bytes) (t .others) (t .reads))
-
--- ---- what a solution of the edges is to the rows
-
-meets : (x : List ℕ) (e : Edge) → Met x e → Meets x (rowOf e)
-unfolding evalVars edgeXor
-meets x e h = simp xor-zero-r h
-
-all-meet : (x : List ℕ) (rows : List Equation) → Each Three rows → Each (Met x) (edgesOf rows) → MeetsAll x rows
-unfolding edgesOf
-all-meet x [] t h = tt
-all-meet x (r ∷ rows) t h = (subst (Meets x) (row-kept r (t .0)) (meets x (edgeOf r) (h .0)), all-meet x rows (t .1) (h .1))
-
--- after 0 the solution has n words and meets every row
-pub edges-solve : (n : ℕ) (rows : List Equation) (solution : List ℕ) → Each Three rows → edgesCall n rows solution .answer ≡ Solved
-    → (length (edgesCall n rows solution .solution) ≡ n) × MeetsAll (edgesCall n rows solution .solution) rows
-edges-solve n rows solution t h =
-    let c = call-solved n (peelLowNumbers n) (peelLowBytes n) (edgesOf rows) solution (zeros lentNumbers) (zeros lentBytes) h in
-    let s = peel-solves n (edgesOf rows) (edgesCall n rows solution .solution) (c .runs .valid) (c .is) in
-    (s .0, all-meet (edgesCall n rows solution .solution) rows t (s .1))
+-- one edge more
+pub table-more : (rows : List Equation) (r : Equation) → length rows < mostRows → set (tableOf rows) (length rows) (edgeOf r) ≡ tableOf (rows ++ (r ∷ []))
+unfolding tableOf edgesOf
+table-more rows r h =
+    let left : List Edge = replicate (mostRows - length (rows ++ (r ∷ []))) noEdge in
+    let s : mostRows - length rows ≡ suc (mostRows - length (rows ++ (r ∷ []))) = simp length-append (omega arith) in
+    rw s (set-at (edgesOf rows) noEdge left (edgeOf r) (length rows) (length-edges rows))
+    ∙ sym (ap (λ (es : List Edge). es ++ left) (edges-append rows (r ∷ [])) ∙ append-assoc (edgesOf rows) (edgeOf r ∷ []) left)

@@ -1,3 +1,4 @@
 pub mod Laws
+pub mod Threes
 pub mod EdgeRows
 pub mod Filling

@@ -2,13 +2,13 @@
 ghost use mathlib.Core.Path.{_≡_};
 ghost use mathlib.Core.Option.{some};
 ghost use Prim.Native.Nat.{_+_, _*_, _≤_};
-ghost use lib.ListN.{length, take, drop};
+ghost use lib.ListN.{length, drop};
 ghost use Rattle.peel_rules.specs.Machine.{noEdge};
 ghost use Rattle.link_form.specs.Bytes.{field};
 ghost use Rattle.link_form.specs.File.{maxBytes, peelKind, row, readRows};
 ghost use Rattle.link_form.specs.Lent.{mostRows};
 ghost use Rattle.link_form.specs.Loading.{rowsAt};
-ghost use Rattle.link_edges.specs.Edges.{edgeOf, edgesOf};
+ghost use Rattle.link_edges.specs.Edges.{edgeOf, tableOf};
 use link_form::MOST_ROWS;
 use link_form::read_number;
 use peeling::numbers::Edge;
@@ -44,11 +44,11 @@ fn edge_in(bytes: &[u8], at: usize, w: usize) -> Edge
     Edge { a, b, c, value }
 }
 
-// The `m` edges from `at` on, and after them whatever fills the table.
+// The `m` edges from `at` on.
 pub fn load_edges(bytes: &[u8], at: usize, w: usize, m: usize) -> [Edge; MOST_ROWS]
     requires { ⌜ (readRows peelKind w m (drop at (now bytes)) ≡ some (rowsAt peelKind w m at (now bytes))) × (at ≤ length (now bytes)) × (length (now bytes) ≤ maxBytes)
         × (w ≤ 4) × (m ≤ mostRows) ⌝ }
-    ensures { λ r. ⌜ take m r ≡ edgesOf (rowsAt peelKind w m at (now (bytes .entry))) ⌝ }
+    ensures { λ r. ⌜ r ≡ tableOf (rowsAt peelKind w m at (now (bytes .entry))) ⌝ }
 {
     let none = no_edge();
     let mut table = [none; MOST_ROWS];

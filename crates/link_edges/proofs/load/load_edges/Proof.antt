@@ -1,6 +1,9 @@
 use borrow.Author.Needs.{needs}
+use mathlib.Core.Path.{ap}
 use Prim.Native.Nat.{_-_}
+use lib.ListN.{replicate}
 use Rattle.link_form.specs.File.{peelKind}
+use Rattle.link_form.specs.Lent.{mostRows}
 use Rattle.link_form.specs.Loading.{rowsAt}
 use Rattle.link_edges.proofs.Filling.{Filling, filling-begin, filling-room, filling-turn, filling-end}
 use Rattle.link_edges.proofs.load.load_edges.Statement.{statement}
@@ -13,7 +16,7 @@ abbrev μ-loop : tie.MeasureT-loop
 μ-loop bytes at w m table₀ p₀ i₀ table p i = m - i
 
 loop-holds : tie.Need-loop-holds Inv-loop μ-loop
-loop-holds c = search (needs, filling-begin)
+loop-holds c = let t = ap (replicate mostRows) (c .no-edge .ensures) in search (needs, filling-begin)
 
 edge-in-requires : tie.Need-edge-in-requires Inv-loop μ-loop
 edge-in-requires c κs = let r = filling-room (c .before .loop .inv) (c .loop-test .taken) in search needs
