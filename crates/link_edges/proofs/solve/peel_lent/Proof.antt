@@ -1,8 +1,10 @@
 use borrow.Author.Needs.{needs}
+use Rattle.link_edges.specs.Edges.{lentCall}
 use Rattle.link_edges.proofs.solve.peel_lent.Statement.{statement}
 use Rattle.link_edges.proofs.solve.peel_lent.Tie as tie
 
 returns : tie.Need-returns
+unfolding lentCall
 returns c =
     let left = c .before .before .before .before .peel-low-of .ensures in
     (left .answer, left .solution-is)
