@@ -1,5 +1,5 @@
 pub mod CallRules
-pub mod CallLaws
+pub mod EitherCall
 pub mod ReadingLaws
 pub mod ProgramRules
 pub mod ProgramLaws

@@ -9,21 +9,21 @@ use Rattle.peel_steps.specs.declared.ends.Peeling.{Peeling}
 use Rattle.peel_steps.proofs.ends.Peeling as Peelingᴿ
 use Rattle.peel_steps.proofs.ends.Peeling.Laws as Peelingᴸ
 use Rattle.walk_rules.proofs.Lent.{val, Shr, Mut}
-use Rattle.peelers.proofs.CallRules.{EdgeCountᶜ, calls-edge-count, BadEdgeᶜ, calls-bad-edge, Opensᶜ, calls-opens, Enterᶜ, calls-enter}
+use Rattle.peel_calls.proofs.CallRules.{EdgeCountᶜ, calls-edge-count, BadEdgeᶜ, calls-bad-edge, Opensᶜ, calls-opens, Enterᶜ, calls-enter}
 use Rattle.peel_walks.proofs.table.edge_count.Symbol as edge-count-def
 use Rattle.peel_walks.proofs.table.edge_count.Met as edge-count-thm
 use Rattle.peel_walks.proofs.table.bad_edge.Symbol as bad-edge-def
 use Rattle.peel_walks.proofs.table.bad_edge.Met as bad-edge-thm
 use Rattle.peel_steps.proofs.rules.opens.Symbol as opens-def
 use Rattle.peel_steps.proofs.rules.opens.Met as opens-thm
-use Rattle.peelers.proofs.calls.enter.Symbol as enter-def
-use Rattle.peelers.proofs.calls.enter.Met as enter-thm
-use Rattle.peelers.proofs.calls.peel_by_sig_vals.Key.{name as #self}
-use Rattle.peelers.proofs.calls.peel_by_sig_vals as self
-use Rattle.peelers.proofs.calls.peel_by_sig_vals.Statement as stated
-use Rattle.peelers.proofs.calls.peel_by_sig_vals.Code as code
+use Rattle.peel_calls.proofs.call.enter.Symbol as enter-def
+use Rattle.peel_calls.proofs.call.enter.Met as enter-thm
+use Rattle.peel_calls.proofs.call.peel_by_sig_vals.Key.{name as #self}
+use Rattle.peel_calls.proofs.call.peel_by_sig_vals as self
+use Rattle.peel_calls.proofs.call.peel_by_sig_vals.Statement as stated
+use Rattle.peel_calls.proofs.call.peel_by_sig_vals.Code as code
 use Rattle.peel_runs.specs.Runs.{Leaves}
-use Rattle.peelers.specs.Run.{peelingCall}
+use Rattle.peel_calls.specs.Judging.{peelingCall}
 
 abbrev stayed : Stays (self.ended .signature .params) (self.ended .kept)
 stayed = (stay-none-slice (0 ∷ []) tt (plain (λ _. Edgeᴿ.the-row)) yes, (stay-dropped (plain (λ _. bool)) yes, (stay-dropped (plain (λ _. usize)) yes, (stay-slice (1 ∷ []) tt (plain (λ _. u64)), (stay-slice (2 ∷ []) tt (plain (λ _. u32)), (stay-slice (3 ∷ []) tt (plain (λ _. u8)), tt))))))
@@ -96,4 +96,4 @@ peel-by-sig-vals-spec 𝓤 H 𝓜 𝓖 𝓡 =
     (cited 𝓤 H (EdgeCountᶜ 𝓤 H (𝓖 .A) (𝓜 .mem) (𝓡 .run)) 𝓜 𝓡 code.env edge-count-def.name edge-count-def.routine code.calls-peel-walks·table·edge-count (edge-count-thm.met 𝓤 H 𝓜 𝓖 𝓡))
     (cited 𝓤 H (BadEdgeᶜ 𝓤 H (𝓖 .A) (𝓜 .mem) (𝓡 .run)) 𝓜 𝓡 code.env bad-edge-def.name bad-edge-def.routine code.calls-peel-walks·table·bad-edge (bad-edge-thm.met 𝓤 H 𝓜 𝓖 𝓡))
     (cited 𝓤 H (Opensᶜ 𝓤 H (𝓖 .A) (𝓜 .mem) (𝓡 .run)) 𝓜 𝓡 code.env opens-def.name opens-def.routine code.calls-peel-steps·rules·opens (opens-thm.met 𝓤 H 𝓜 𝓖 𝓡))
-    (cited 𝓤 H (Enterᶜ 𝓤 H (𝓖 .A) (𝓜 .mem) (𝓡 .run)) 𝓜 𝓡 code.env enter-def.name enter-def.routine code.calls-peelers·calls·enter (enter-thm.met 𝓤 H 𝓜 𝓖 𝓡)))
+    (cited 𝓤 H (Enterᶜ 𝓤 H (𝓖 .A) (𝓜 .mem) (𝓡 .run)) 𝓜 𝓡 code.env enter-def.name enter-def.routine code.calls-peel-calls·call·enter (enter-thm.met 𝓤 H 𝓜 𝓖 𝓡)))

@@ -10,18 +10,18 @@ use Rattle.peel_steps.proofs.ends.Peeling as Peelingᴿ
 use Rattle.peel_steps.proofs.ends.Peeling.Laws as Peelingᴸ
 use Rattle.walk_rules.proofs.Loops.{forks, is-true, is-false}
 use Rattle.walk_rules.proofs.Lent.{val, Shr, Mut}
-use Rattle.peelers.proofs.CallRules.{RunPeelerᶜ, calls-run-peeler, Refusalᶜ, calls-refusal}
+use Rattle.peel_calls.proofs.CallRules.{RunPeelerᶜ, calls-run-peeler, Refusalᶜ, calls-refusal}
 use Rattle.peel_runs.proofs.run.run_peeler.Symbol as run-peeler-def
 use Rattle.peel_runs.proofs.run.run_peeler.Met as run-peeler-thm
 use Rattle.peel_steps.proofs.rules.refusal.Symbol as refusal-def
 use Rattle.peel_steps.proofs.rules.refusal.Met as refusal-thm
-use Rattle.peelers.proofs.calls.enter.Key.{name as #self}
-use Rattle.peelers.proofs.calls.enter as self
-use Rattle.peelers.proofs.calls.enter.Statement as stated
-use Rattle.peelers.proofs.calls.enter.Code as code
-use Rattle.peelers.specs.Run.{Judged, peelingCall}
+use Rattle.peel_calls.proofs.call.enter.Key.{name as #self}
+use Rattle.peel_calls.proofs.call.enter as self
+use Rattle.peel_calls.proofs.call.enter.Statement as stated
+use Rattle.peel_calls.proofs.call.enter.Code as code
+use Rattle.peel_calls.specs.Judging.{Judged, peelingCall}
 use Rattle.peel_runs.specs.Runs.{Leaves}
-use Rattle.peelers.proofs.CallLaws.{run-asks, run-leaves, refusal-leaves}
+use Rattle.peel_calls.proofs.CallLaws.{run-asks, run-leaves, refusal-leaves}
 
 abbrev stayed : Stays (self.ended .signature .params) (self.ended .kept)
 stayed = (stay-none-slice (0 ∷ []) tt (plain (λ _. Edgeᴿ.the-row)) yes, (stay-dropped (plain (λ _. bool)) yes, (stay-dropped (plain (λ _. usize)) yes, (stay-dropped (plain (λ _. usize)) yes, (stay-dropped (plain (λ _. usize)) yes, (stay-dropped (plain (λ _. bool)) yes, (stay-slice (1 ∷ []) tt (plain (λ _. u64)), (stay-slice (2 ∷ []) tt (plain (λ _. u32)), (stay-slice (3 ∷ []) tt (plain (λ _. u8)), tt)))))))))
@@ -60,12 +60,12 @@ module _ {M : Type 1} (𝓤 : URA M) (H : Heap 𝓤) (A : Atoms 𝓤) (W : Given
         assigns ! (agg ! (and-then ! (load ! (from ! (stop !)) (look ! 14 refl)) (and-then ! (load ! (from ! (fld ! refl (stop !))) (look-in ! 30 (sub ! 1 refl (whole !)))) (no-more !)))) (from ! (stop !)) (init ! 12 refl (tt, (tt, (record { fits = y-room .0 }, tt)))) $
         assigns ! (addr ! (from ! (fld ! refl (hop ! (look-in ! 28 (sub ! 0 refl (whole !))) (stop !))))) (from ! (stop !)) (init ! 10 refl (tt, tt)) $
         assigns ! (agg ! (and-then ! (load ! (from ! (stop !)) (look ! 10 refl)) (and-then ! (load ! (from ! (fld ! refl (stop !))) (look-in ! 28 (sub ! 1 refl (whole !)))) (no-more !)))) (from ! (stop !)) (init ! 8 refl (tt, (tt, (record { fits = z-room .0 }, tt)))) $
-        calls-run-peeler ! fm at-mem run known-run-peeler κx qx x high n n-fits m m-fits κw qw w (now w) refl w-room κy qy y (now y) refl y-room κz qz z (now z) refl z-room (run-asks high n (now x) (now w) (now y) (now z) (asked .all) (asked .lowest) (asked .gate) (is-true allowed g1))
+        calls-run-peeler ! fm at-mem run known-run-peeler κx qx x high n n-fits m m-fits κw qw w (now w) refl w-room κy qy y (now y) refl y-room κz qz z (now z) refl z-room (run-asks asked (is-true allowed g1))
         (λ ν0 δ0 ν1 δ1 ν2 δ2. and-then ! (load ! (from ! (stop !)) (look ! 44 refl)) (and-then ! (load ! (from ! (stop !)) (look ! 42 refl)) (and-then ! (load ! (from ! (stop !)) (look ! 40 refl)) (and-then ! (load ! (from ! (stop !)) (look ! 38 refl)) (and-then ! (load ! (from ! (stop !)) (look ! 16 refl)) (and-then ! (load ! (from ! (stop !)) (look ! 12 refl)) (and-then ! (load ! (from ! (stop !)) (look ! 8 refl)) (no-more !)))))))) (λ r0 z0w z0y z0z s0 l0w l0y l0z i0.
         land ! (from ! (stop !)) (init ! 46 refl (LL.lawful Peelingᴿ.the-type Peelingᴸ.the-laws 𝓤 H A W .typed r0 _ i0 .0)) $
         returns ! (look ! 46 refl) $ forget ! 8 refl $ forget ! 10 refl $ forget ! 12 refl $ forget ! 14 refl $ forget ! 16 refl $ forget ! 18 refl $ forget ! 26 refl $ forget ! 28 refl $ forget ! 30 refl $ forget ! 32 refl $ forget ! 34 refl $ forget ! 36 refl $ forget ! 38 refl $ forget ! 40 refl $ forget ! 42 refl $ forget ! 44 refl $ forget ! 46 refl $
         move ! (46 ∷ 47 ∷ 44 ∷ 45 ∷ 42 ∷ 43 ∷ 40 ∷ 41 ∷ 38 ∷ 39 ∷ 36 ∷ 37 ∷ 34 ∷ 35 ∷ 32 ∷ 33 ∷ 30 ∷ 31 ∷ 28 ∷ 29 ∷ 26 ∷ 27 ∷ 24 ∷ 25 ∷ 22 ∷ 23 ∷ 20 ∷ 21 ∷ 18 ∷ 19 ∷ 16 ∷ 17 ∷ 14 ∷ 15 ∷ 12 ∷ 13 ∷ 10 ∷ 11 ∷ 8 ∷ 9 ∷ []) $ free1 ! $ free1 ! $ free1 ! $ free1 ! $ free1 ! $ free1 ! $ free1 ! $ free1 ! $ free1 ! $ free1 ! $ free1 ! $ free1 ! $ free1 ! $ free1 ! $ free1 ! $ free1 ! $ free1 ! $ free1 ! $ free1 ! $ free1 ! $ free0 ! $
-        by ! (exits r0 z0w z0y z0z (run-leaves high n (now x) (now w) (now y) (now z) (asked .all) (asked .lowest) (asked .gate) (is-true allowed g1) s0) l0w l0y l0z i0)))
+        by ! (exits r0 z0w z0y z0z (run-leaves asked (is-true allowed g1) s0) l0w l0y l0z i0)))
         (λ Q on ret leave g1.
         assigns ! (of-opd ! (load ! (from ! (fld ! refl (stop !))) (look-in ! 32 (sub ! 1 refl (whole !))))) (from ! (stop !)) (init ! 24 refl (tt, record { fits = w-room .0 })) $
         assigns ! (of-opd ! (load ! (from ! (fld ! refl (stop !))) (look-in ! 30 (sub ! 1 refl (whole !))))) (from ! (stop !)) (init ! 22 refl (tt, record { fits = y-room .0 })) $
@@ -75,7 +75,7 @@ module _ {M : Type 1} (𝓤 : URA M) (H : Heap 𝓤) (A : Atoms 𝓤) (W : Given
         land ! (from ! (stop !)) (init ! 46 refl (LL.lawful Peelingᴿ.the-type Peelingᴸ.the-laws 𝓤 H A W .typed r1 _ i1 .0)) $
         returns-within ! Post ret (look ! 46 refl) $ forget ! 20 refl $ forget ! 22 refl $ forget ! 24 refl $ forget ! 26 refl $ forget ! 28 refl $ forget ! 30 refl $ forget ! 32 refl $ forget ! 34 refl $ forget ! 36 refl $ forget ! 38 refl $ forget ! 40 refl $ forget ! 42 refl $ forget ! 44 refl $ forget ! 46 refl $
         move ! (46 ∷ 47 ∷ 44 ∷ 45 ∷ 42 ∷ 43 ∷ 40 ∷ 41 ∷ 38 ∷ 39 ∷ 36 ∷ 37 ∷ 34 ∷ 35 ∷ 32 ∷ 33 ∷ 30 ∷ 31 ∷ 28 ∷ 29 ∷ 26 ∷ 27 ∷ 24 ∷ 25 ∷ 22 ∷ 23 ∷ 20 ∷ 21 ∷ 18 ∷ 19 ∷ 16 ∷ 17 ∷ 14 ∷ 15 ∷ 12 ∷ 13 ∷ 10 ∷ 11 ∷ 8 ∷ 9 ∷ []) $ free1 ! $ free1 ! $ free1 ! $ free1 ! $ free1 ! $ free1 ! $ free1 ! $ free1 ! $ free1 ! $ free1 ! $ free1 ! $ free1 ! $ free1 ! $ free1 ! $ free1 ! $ free1 ! $ free1 ! $ free1 ! $ free1 ! $ free1 ! $ free0 ! $
-        by ! (exits r1 (now w) (now y) (now z) (refusal-leaves high n (now x) (now w) (now y) (now z) (asked .all) (asked .lowest) (asked .gate) (is-false allowed g1) s1) refl refl refl i1)))))))))))))))))))))))
+        by ! (exits r1 (now w) (now y) (now z) (refusal-leaves asked (is-false allowed g1) s1) refl refl refl i1)))))))))))))))))))))))
 
 module _ {M : Type 1} (𝓤 : URA M) (H : Heap 𝓤) (A : Atoms 𝓤) (W : Given 𝓤 H A) (at-mem : Memory → SProp 𝓤) (run : Routine → Fun 𝓤) (𝓣 : Tables 𝓤 H) (known-run-peeler : Triple 𝓤 (𝓣 .C run-peeler-def.name) (RunPeelerᶜ 𝓤 H A at-mem run)) (known-refusal : Triple 𝓤 (𝓣 .C refusal-def.name) (Refusalᶜ 𝓤 H A at-mem run)) where
   walks : Walks 𝓤 H A self.ended stayed (WpFn 𝓤 H (𝓣 .C) (𝓣 .Λ) code.function) (self.clauses 𝓤 H A at-mem run)

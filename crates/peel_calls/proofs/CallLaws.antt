@@ -10,13 +10,12 @@ use Rattle.answers.specs.Sizes.{maxVariables, maxEquations}
 use Rattle.peeling.specs.declared.numbers.Edge.{Edge}
 use Rattle.peel_rules.specs.Edges.{badEdge}
 use Rattle.peel_rules.proofs.PeelTheorems.{all-valid}
-use Rattle.peel_rules.specs.Calls.{peelHighCall, peelLowCall}
 use Rattle.peel_steps.specs.declared.ends.Peeling.{Peeling}
 use Rattle.peel_steps.specs.declared.rules.Gate.{Gate}
 use Rattle.peel_steps.specs.Pictures.{numbersRoom, bytesRoom}
 use Rattle.peel_steps.specs.Gates.{gateOf}
 use Rattle.peel_runs.specs.Runs.{Admitted, Leaves, runCall}
-use Rattle.peelers.specs.Run.{peelingCall}
+use Rattle.peel_calls.specs.Judging.{Judged, peelingCall}
 
 both : (a b : Bool) → (a && b) ≡ true → (a ≡ true) × (b ≡ true)
 both true b h = (refl, h)
@@ -79,29 +78,18 @@ module _ (high : Bool) (n : ℕ) (T : List Edge) (cells numbers bytes : List ℕ
 
 -- ---- as the call meets them, with its count of the edges
 
-module _ (high : Bool) (n : ℕ) (T : List Edge) (cells numbers bytes : List ℕ) {m low : ℕ} {open? : Bool} (hm : m ≡ length T) (hb : low ≡ badEdge n T)
-    (ho : open? ≡ gateOf high n m low (length cells) (length numbers) (length bytes) .opened) where
+module _ {high : Bool} {n m low : ℕ} {open? : Bool} {T : List Edge} {cells numbers bytes : List ℕ} (j : Judged high n m low open? T cells numbers bytes) where
   same : gateOf high n m low (length cells) (length numbers) (length bytes) ≡ gateOf high n (length T) (badEdge n T) (length cells) (length numbers) (length bytes)
-  same = ap (λ (k : ℕ). gateOf high n k low (length cells) (length numbers) (length bytes)) hm ∙ ap (λ (k : ℕ). gateOf high n (length T) k (length cells) (length numbers) (length bytes)) hb
+  same = ap (λ (k : ℕ). gateOf high n k low (length cells) (length numbers) (length bytes)) (j .all) ∙ ap (λ (k : ℕ). gateOf high n (length T) k (length cells) (length numbers) (length bytes)) (j .lowest)
 
   is-open : open? ≡ gateOf high n (length T) (badEdge n T) (length cells) (length numbers) (length bytes) .opened
-  is-open = ho ∙ ap (λ (g : Gate). g .opened) same
+  is-open = j .gate ∙ ap (λ (g : Gate). g .opened) same
 
   pub run-asks : open? ≡ true → Admitted high n m T cells numbers bytes
-  run-asks q = subst (λ (k : ℕ). Admitted high n k T cells numbers bytes) (sym hm) (let-in high n T cells numbers bytes (sym is-open ∙ q) .0)
+  run-asks q = subst (λ (k : ℕ). Admitted high n k T cells numbers bytes) (sym (j .all)) (let-in high n T cells numbers bytes (sym is-open ∙ q) .0)
 
   pub run-leaves : open? ≡ true → {r : Peeling} {x d b : List ℕ} → Leaves (runCall high n T cells numbers bytes) r x d b → Leaves (peelingCall high n T cells numbers bytes) r x d b
   run-leaves q {r} {x} {d} {b} l = let-in high n T cells numbers bytes (sym is-open ∙ q) .1 r x d b l
 
   pub refusal-leaves : open? ≡ false → {r : Peeling} → r ≡ gateOf high n m low (length cells) (length numbers) (length bytes) .refusal → Leaves (peelingCall high n T cells numbers bytes) r cells numbers bytes
   refusal-leaves q {r} e = turned-away high n T cells numbers bytes r (sym is-open ∙ q) (e ∙ ap (λ (g : Gate). g .refusal) same)
-
--- ---- the call of either peeler
-
-pub high-leaves : (n : ℕ) (T : List Edge) (cells numbers bytes : List ℕ) {r : Peeling} {x d b : List ℕ} → Leaves (peelingCall true n T cells numbers bytes) r x d b → Leaves (peelHighCall n T cells numbers bytes) r x d b
-unfolding peelingCall
-high-leaves n T cells numbers bytes l = l
-
-pub low-leaves : (n : ℕ) (T : List Edge) (cells numbers bytes : List ℕ) {r : Peeling} {x d b : List ℕ} → Leaves (peelingCall false n T cells numbers bytes) r x d b → Leaves (peelLowCall n T cells numbers bytes) r x d b
-unfolding peelingCall
-low-leaves n T cells numbers bytes l = l
