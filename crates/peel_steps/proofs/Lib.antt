@@ -2,3 +2,4 @@ pub mod SideLaws
 pub mod PictureLaws
 pub mod BuildLaws
 pub mod StepLaws
+pub mod StackLaws

@@ -18,6 +18,9 @@ use peeling::incidence::zero_at;
 use peeling::numbers::Edge;
 use peeling::numbers::EdgeNo;
 use peeling::numbers::Vertex;
+use peeling::stack::Head;
+use peeling::stack::fast_push;
+use peeling::stack::push_upper_at;
 
 // Where a peeler stands.
 pub struct Heads {
@@ -36,8 +39,12 @@ fn push_if(yes: bool, n: usize, top: usize, v: Vertex, numbers: &mut [u32]) -> u
     ensures area { λ _. ⌜ now (numbers .exit) ≡ pushed yes (now (numbers .entry)) (n + top) (v .0) ⌝ }
 {
     if yes {
-        numbers[n + top] = v.0;
-        return top + 1;
+        let head = Head {
+            lower: top,
+            upper: top,
+        };
+        let after = fast_push(&mut numbers[n..], head, v);
+        return after.head.lower;
     }
     top
 }
@@ -119,7 +126,11 @@ fn keep_vertex(n: usize, peeled: usize, v: Vertex, numbers: &mut [u32])
     requires { ⌜ (n ≤ maxVariables) × (peeled < n) × (n + n ≤ length (now numbers)) ⌝ }
     ensures { λ _. ⌜ now (numbers .exit) ≡ set (now (numbers .entry)) (n + n - (peeled + 1)) (v .0) ⌝ }
 {
-    numbers[n + n - (peeled + 1)] = v.0;
+    let head = Head {
+        lower: 0,
+        upper: n - peeled,
+    };
+    push_upper_at(&mut numbers[n..n + n], head, v);
 }
 
 // The edge of the vertex on top of the stack.
