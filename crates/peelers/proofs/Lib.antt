@@ -3,3 +3,4 @@ pub mod EitherCall
 pub mod ReadingLaws
 pub mod ProgramRules
 pub mod ProgramLaws
+pub mod Examples

@@ -1,4 +1,4 @@
--- Slice references in a walk, as rules that leave the positions of the context as they were. It says nothing of the crate, and can be copied as it stands, with `Again.antt`.
+-- Slice references in a walk, as rules that leave the positions of the context as they were.
 --     val x            the machine value of a slice reference, as it came in: it never changes, whatever the list is now
 --     at x δ d         the reference under the name δ, at the list d
 --     Shr R κ x        what is owned of a `&[R]`

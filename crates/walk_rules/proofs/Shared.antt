@@ -1,4 +1,4 @@
--- A `&mut [T]` that is lent as a `&[T]` for a lifetime of a call, and comes back as it was. It says nothing of the crate.
+-- A `&mut [T]` that is lent as a `&[T]` for a lifetime of a call, and comes back as it was.
 --     LentShared       what the holder keeps meanwhile: the lender's part, and its own borrow, open, with both halves of its ghost variable
 --     shares           [Mut y d; κ's token; …]  →  [ν's token; ShrOf y d; KeptShr; …]
 --     unshares         [ν's token; KeptShr; …]  →  [Mut y d; κ's token; …]

@@ -1,4 +1,4 @@
--- `edges::edge_at` meets its contract: a walk of its MIR, by hand. The place of `edges[i]` is 24 · i past the slice's pointer; the slice is looked into, element i is taken out of the row, copied, and put back.
+-- `edge_at` meets its contract: a walk of its MIR, by hand. The place of `edges[i]` is 24 · i past the slice's pointer; the slice is looked into, element i is taken out of the row, copied, and put back.
 -- Assumes nothing.
 use mathlib.Core.Path.{refl, sym}
 use Prim.Native.Nat.{ℕ, _<_, _^_, _*_}

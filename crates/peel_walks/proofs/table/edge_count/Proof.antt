@@ -1,4 +1,4 @@
--- `edges::edge_count` meets its contract: a walk of its MIR, by hand. The count is field 1 of the slice reference. Assumes nothing.
+-- `edge_count` meets its contract: a walk of its MIR, by hand. The count is field 1 of the slice reference. Assumes nothing.
 use mathlib.Core.Path.{refl}
 use Prim.Native.Nat.{ℕ, _<_, _^_}
 use mathlib.Core.List.{List, [], _∷_}
