@@ -1,14 +1,14 @@
 -- A row of kind 3 is an edge: three numbers of w bytes and eight bytes.
-use mathlib.Core.Path.{_≡_, refl, sym, ap, _∙_}
-use mathlib.Core.List.{List, [], _∷_}
-use Prim.Native.Nat.{ℕ, zero, suc, _+_, _*_}
+use mathlib.Core.Path.{_≡_, sym, _∙_}
+use mathlib.Core.List.{List}
+use Prim.Native.Nat.{ℕ, _+_, _*_}
 use native.Mathlib.Omega.{arith}
-use lib.ListN.{length, take, drop}
+use lib.ListN.{drop}
 use lib.Seq.{drop-drop}
 use Rattle.areas.specs.Stretch.{stretch}
 use Rattle.peeling.specs.declared.numbers.Vertex.{Vertex}
 use Rattle.peel_rules.specs.Edges.{edge}
-use Rattle.link_form.specs.Bytes.{little, field, fields}
+use Rattle.link_form.specs.Bytes.{field, fields}
 use Rattle.link_form.specs.File.{peelKind, count, rowBytes, row}
 use Rattle.link_edges.specs.Edges.{edgeOf}
 

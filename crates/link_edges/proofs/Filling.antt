@@ -1,18 +1,18 @@
 -- The table of a file's edges, filled from the first on.
-use mathlib.Core.Path.{_≡_, refl, sym, ap, ap₂, _∙_}
-use mathlib.Core.List.{List, [], _∷_, _++_}
+use mathlib.Core.Path.{_≡_, sym, ap, ap₂, _∙_}
+use mathlib.Core.List.{List}
 use mathlib.Core.Option.{some}
-use Prim.Native.Nat.{ℕ, zero, suc, _+_, _-_, _*_, _≤_, _<_}
+use Prim.Native.Nat.{ℕ, _+_, _-_, _*_, _≤_, _<_}
 use native.Mathlib.Omega.{arith}
-use lib.ListN.{length, take, drop, set, replicate, length-set, length-drop, length-replicate}
-use lib.Seq.{drop-drop, take-add, take-all, length-take-le}
+use lib.ListN.{length, take, drop, set, replicate, length-set, length-replicate}
+use lib.Seq.{take-all, length-take-le}
 use Rattle.gf2.specs.Equation.{Equation}
 use Rattle.peeling.specs.declared.numbers.Edge.{Edge}
 use Rattle.peel_rules.specs.Machine.{noEdge}
-use Rattle.link_form.specs.File.{maxBytes, peelKind, width, headerBytes, rowBytes, row, readRows}
+use Rattle.link_form.specs.File.{maxBytes, peelKind, width, headerBytes, row, readRows}
 use Rattle.link_form.specs.Lent.{mostRows, Served, fileRows}
 use Rattle.link_form.proofs.Scanning.{length-rows}
-use Rattle.link_form.proofs.RoundTrip.{taken}
+use Rattle.link_form.proofs.Loading.{Next, next-row}
 use Rattle.link_edges.specs.Edges.{edgeOf, edgesOf, tableOf}
 use Rattle.link_edges.proofs.Laws.{table-edges, table-more}
 use Rattle.link_edges.proofs.EdgeRows.{edge-bytes}
@@ -46,31 +46,12 @@ filling-begin {bytes} {w} {m} {at} {rows} e g s n f t =
       laid = t;
     }
 
--- the row that is read next, and those after it
-record Next (bytes : List ℕ) (w m : ℕ) (rows : List Equation) (p i : ℕ) : Type 0 where
-  there : p + 3 * w + 8 ≤ length bytes
-  reads : readRows peelKind w (m - (i + 1)) (drop (p + (3 * w + 8)) bytes) ≡ some (drop (i + 1) rows)
-  more : take (i + 1) rows ≡ take i rows ++ (row peelKind w (drop p bytes) ∷ [])
-
-next : {bytes : List ℕ} {w m : ℕ} {rows : List Equation} {p i : ℕ} {table : List Edge} → Filling bytes w m rows p i table → i < m → Next bytes w m rows p i
-next {bytes} {w} {m} {rows} {p} {i} f h =
-    let s : m - i ≡ suc (m - (i + 1)) = omega arith in
-    let t = taken peelKind w (m - (i + 1)) (drop p bytes) (drop i rows) (rw s at (f .reads)) in
-    let b = edge-bytes w p bytes in
-    let l = length-drop p bytes in
-    record {
-      there = omega (arith, t .there, f .inside);
-      reads =
-          ap (λ (k : ℕ). readRows peelKind w (m - (i + 1)) (drop (p + k) bytes)) (sym b)
-          ∙ ap (readRows peelKind w (m - (i + 1))) (sym (drop-drop (rowBytes peelKind w (drop p bytes)) p bytes))
-          ∙ t .reads
-          ∙ ap some (ap (drop 1) (sym (t .all)) ∙ drop-drop 1 i rows);
-      more = take-add i 1 rows ∙ ap (λ (l : List Equation). take i rows ++ take 1 l) (t .all);
-    }
+next : {bytes : List ℕ} {w m : ℕ} {rows : List Equation} {p i : ℕ} {table : List Edge} → Filling bytes w m rows p i table → i < m → Next bytes peelKind w m rows p i
+next {bytes} {w} {m} {rows} {p} {i} f h = next-row bytes peelKind w m rows p i (f .inside) h (f .reads)
 
 -- the next edge is there
 pub filling-room : {bytes : List ℕ} {w m : ℕ} {rows : List Equation} {p i : ℕ} {table : List Edge} → Filling bytes w m rows p i table → i < m → p + 3 * w + 8 ≤ length bytes
-filling-room f h = next f h .there
+filling-room {bytes} {w} {p = p} f h = let b = edge-bytes w p bytes in omega (arith, next f h .there)
 
 pub filling-turn : {bytes : List ℕ} {w m : ℕ} {rows : List Equation} {p i : ℕ} {table : List Edge} {e : Edge} → Filling bytes w m rows p i table → i < m
     → e ≡ edgeOf (row peelKind w (drop p bytes)) → Filling bytes w m rows (p + (3 * w + 8)) (i + 1) (set table i e)
@@ -80,13 +61,13 @@ filling-turn {bytes} {w} {m} {rows} {p} {i} {table} {e} f h is =
     let il : length (take i rows) ≡ i = length-take-le i rows (omega (arith, f .many)) in
     record {
       done = omega arith;
-      inside = omega (arith, n .there);
+      inside = omega (arith, filling-room f h);
       short = f .short;
       narrow = f .narrow;
       few = b;
       many = f .many;
       long = simp length-set (f .long);
-      reads = n .reads;
+      reads = rw (← (edge-bytes w p bytes)) (n .reads);
       laid =
           ap₂ (λ (t : List Edge) (x : Edge). set t i x) (f .laid) is
           ∙ ap (λ (k : ℕ). set (tableOf (take i rows)) k (edgeOf (row peelKind w (drop p bytes)))) (sym il)

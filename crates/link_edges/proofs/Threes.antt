@@ -17,7 +17,7 @@ use Rattle.link_form.specs.File.{peelKind, count, rowBytes, readRows}
 use Rattle.link_form.specs.Lent.{lentNumbers, lentBytes, zeros}
 use Rattle.link_form.proofs.Scanning.{length-row}
 use Rattle.link_form.proofs.RoundTrip.{taken}
-use Rattle.link_edges.specs.Edges.{edgeOf, edgesOf, edgesCall}
+use Rattle.link_edges.specs.Edges.{edgeOf, edgesOf, lentCall, edgesCall}
 
 abbrev pub Three : Equation → Type 0
 Three r = length (r .vars) ≡ 3
@@ -65,6 +65,7 @@ all-meet x (r ∷ rows) t h = (subst (Meets x) (row-kept r (t .0)) (meets x (edg
 -- after 0 the solution has n words and meets every row
 pub edges-solves : (n : ℕ) (rows : List Equation) (solution : List ℕ) → Each Three rows → edgesCall n rows solution .answer ≡ Solved
     → (length (edgesCall n rows solution .solution) ≡ n) × MeetsAll (edgesCall n rows solution .solution) rows
+unfolding lentCall
 edges-solves n rows solution t h =
     let c = call-solved n (peelLowNumbers n) (peelLowBytes n) (edgesOf rows) solution (zeros lentNumbers) (zeros lentBytes) h in
     let s = peel-solves n (edgesOf rows) (edgesCall n rows solution .solution) (c .runs .valid) (c .is) in

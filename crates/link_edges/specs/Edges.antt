@@ -22,7 +22,7 @@ unfoldable pub tableOf : List Equation → List Edge
 tableOf rows = edgesOf rows ++ replicate (mostRows - length rows) noEdge
 
 -- the low-memory peeler on work areas that are zero
-abbrev pub lentCall : ℕ → List Edge → List ℕ → PeelCall
+unfoldable pub lentCall : ℕ → List Edge → List ℕ → PeelCall
 lentCall n es solution = peelLowCall n es solution (zeros lentNumbers) (zeros lentBytes)
 
 abbrev pub edgesCall : ℕ → List Equation → List ℕ → PeelCall

@@ -14,6 +14,7 @@ use link_form::read_number;
 use peeling::numbers::Edge;
 use peeling::numbers::Vertex;
 
+// Stands behind the edges of a table that is not full.
 fn no_edge() -> Edge
     ensures { λ r. ⌜ r ≡ noEdge ⌝ }
 {
