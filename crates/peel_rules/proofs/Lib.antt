@@ -15,7 +15,6 @@ pub mod PeelAnswers
 pub mod PeelHigh
 pub mod PeelTurns
 pub mod PeelFilling
-pub mod PeelOthers
 pub mod PeelRoom
 pub mod PeelTheorems
 pub mod PeelCalls

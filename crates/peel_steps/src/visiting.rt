@@ -18,9 +18,9 @@ use peeling::incidence::zero_at;
 use peeling::numbers::Edge;
 use peeling::numbers::EdgeNo;
 use peeling::numbers::Vertex;
-use peeling::stack::Head;
-use peeling::stack::fast_push;
-use peeling::stack::push_upper_at;
+use stacks::stack::Head;
+use stacks::stack::fast_push;
+use stacks::stack::push_upper_at;
 
 // Where a peeler stands.
 pub struct Heads {

@@ -1,4 +1,2 @@
 pub mod Graph
 pub mod GraphCalls
-pub mod Removal
-pub mod Stacks

@@ -1,8 +1,4 @@
-// The numbers, the graph and the stacks that both peelers use.
-pub mod double;
-pub mod fast;
+// The numbers and the graph that both peelers use.
 pub mod graph;
 pub mod incidence;
 pub mod numbers;
-pub mod removal;
-pub mod stack;

@@ -1,0 +1,59 @@
+-- Stacks in a lent slice: what a push and a pop answer and leave. A push on a full stack and a head that does not fit are outside the domain, and the state stays.
+use mathlib.Core.List.{List}
+use mathlib.Core.Bool.{Bool, _&&_}
+use Prim.Native.Nat.{ℕ, _+_, _-_}
+use lib.ListN.{length, getD, set}
+use lib.Dec.{eqb, leb, ltb}
+use Rattle.answers.specs.Calls.{pick}
+use Rattle.answers.specs.declared.Answer.the-variants.{Solved, OutsideDomain}
+use Rattle.stacks.specs.declared.stack.Head.{Head}
+use Rattle.stacks.specs.declared.stack.Pushed.{Pushed}
+use Rattle.stacks.specs.declared.stack.PopStep.{PopStep}
+use Rattle.stacks.specs.declared.stack.Popped.the-variants.{Got, Empty, Refused}
+
+pub record PushCall : Type 0 where
+  pub result : Pushed
+  pub stack : List ℕ
+
+abbrev pub pushed : List ℕ → ℕ → ℕ → PushCall
+pushed stack lower upper = record { result = record { head = record { lower = lower; upper = upper }; answer = Solved }; stack = stack }
+
+abbrev pub notPushed : List ℕ → Head → PushCall
+notPushed stack head = record { result = record { head = head; answer = OutsideDomain }; stack = stack }
+
+abbrev pub popped : ℕ → ℕ → ℕ → PopStep
+popped v lower upper = record { head = record { lower = lower; upper = upper }; got = Got (record { 0 = v }) }
+
+abbrev pub nothing : Head → PopStep
+nothing head = record { head = head; got = Empty }
+
+abbrev pub notPopped : Head → PopStep
+notPopped head = record { head = head; got = Refused OutsideDomain }
+
+-- ---- one stack: the cells below `lower`
+
+abbrev pub fastPush : List ℕ → Head → ℕ → PushCall
+fastPush s h v = pick (ltb (h .lower) (length s)) (pushed (set s (h .lower) v) (h .lower + 1) (h .upper)) (notPushed s h)
+
+abbrev pub fastPop : List ℕ → Head → PopStep
+fastPop s h = pick (leb (h .lower) (length s)) (pick (eqb (h .lower) 0) (nothing h) (popped (getD s (h .lower - 1) 0) (h .lower - 1) (h .upper))) (notPopped h)
+
+-- ---- two stacks: the cells below `lower`, and those from `upper` on
+
+abbrev pub pushLower : List ℕ → Head → ℕ → PushCall
+pushLower s h v = pick (leb (h .upper) (length s) && ltb (h .lower) (h .upper)) (pushed (set s (h .lower) v) (h .lower + 1) (h .upper)) (notPushed s h)
+
+abbrev pub pushUpper : List ℕ → Head → ℕ → PushCall
+pushUpper s h v = pick (leb (h .upper) (length s) && ltb (h .lower) (h .upper)) (pushed (set s (h .upper - 1) v) (h .lower) (h .upper - 1)) (notPushed s h)
+
+abbrev pub popLower : List ℕ → Head → PopStep
+popLower s h =
+    pick (leb (h .upper) (length s) && leb (h .lower) (h .upper))
+    (pick (eqb (h .lower) 0) (nothing h) (popped (getD s (h .lower - 1) 0) (h .lower - 1) (h .upper)))
+    (notPopped h)
+
+abbrev pub popUpper : List ℕ → Head → PopStep
+popUpper s h =
+    pick (leb (h .upper) (length s) && leb (h .lower) (h .upper))
+    (pick (eqb (h .upper) (length s)) (nothing h) (popped (getD s (h .upper) 0) (h .lower) (h .upper + 1)))
+    (notPopped h)

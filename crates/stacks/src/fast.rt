@@ -1,0 +1,30 @@
+// One stack whose head is lent.
+ghost use mathlib.Core.Path.{_≡_};
+ghost use Rattle.stacks.specs.Stacks.{fastPush, fastPop};
+use crate::stack::Head;
+use crate::stack::Popped;
+use crate::stack::fast_pop;
+use crate::stack::fast_push;
+use answers::Answer;
+use peeling::numbers::Vertex;
+
+// A stack that starts at the beginning of its slice; of its head only `lower` counts.
+pub struct FastStack {}
+
+impl FastStack {
+    pub fn push(head: &mut Head, stack: &mut [u32], v: Vertex) -> Answer
+        ensures { λ r. ⌜ (r ≡ fastPush (now (stack .entry)) (now (head .entry)) (v .0) .result .answer) × (now (head .exit) ≡ fastPush (now (stack .entry)) (now (head .entry)) (v .0) .result .head) × (now (stack .exit) ≡ fastPush (now (stack .entry)) (now (head .entry)) (v .0) .stack) ⌝ }
+    {
+        let p = fast_push(stack, *head, v);
+        *head = p.head;
+        p.answer
+    }
+
+    pub fn pop(head: &mut Head, stack: &[u32]) -> Popped
+        ensures { λ r. ⌜ (r ≡ fastPop (now (stack .entry)) (now (head .entry)) .got) × (now (head .exit) ≡ fastPop (now (stack .entry)) (now (head .entry)) .head) ⌝ }
+    {
+        let p = fast_pop(stack, *head);
+        *head = p.head;
+        p.got
+    }
+}
