@@ -30,7 +30,7 @@ use Rattle.peel_steps.specs.Ends.{Lent, endOf}
 use Rattle.peel_steps.proofs.PictureLaws.{set-in, in-graph, drop-agrees}
 use Rattle.peel_steps.proofs.StepLaws.{zeroed-cleared}
 use Rattle.peel_walks.specs.Walks.{Begins, PeelStarts, PeelEnds, Fillable}
-use Rattle.peel_parts.specs.Parts.{Built, PeelAsks, FillAsks, cellsAfter, SettleAsks, Says, ranSays}
+use Rattle.peel_parts.specs.Parts.{Built, PeelAsks, FillAsks, cellsAfter, SettleAsks, Says, ranSays, GraphAsks, Past}
 
 -- ---- the graph lies in the first n cells of both areas
 
@@ -209,3 +209,16 @@ module _ {high : Bool} {n m count : ℕ} {T : List Edge} {cells numbers bytes : 
       go false q hx e =
           let i : answer n T ≡ solved (fill (peel n T .peeled) (replicate n 0)) = verdict-solved (peel n T .left) (omega (arith, counted, ltb-false count m q)) in
           simp i (record { answer = ap (λ (y : Peeling). y .answer) e; report = ap (λ (y : Peeling). y .report) e; solution-is = hx ∙ ap (λ (ps : List Peeled). fill ps (zeroed 0 n cells)) (a .peeled) ∙ ap (fill (peel n T .peeled)) zeros })
+
+-- ---- the peeling and the filling, one after the other
+
+module _ {high : Bool} {n m : ℕ} {T : List Edge} {cells numbers bytes : List ℕ} (a : GraphAsks high n m T cells numbers bytes) where
+  pub peel-asks : PeelAsks high n T numbers bytes
+  peel-asks = record { lent = subst (λ (j : ℕ). Lent high n j numbers bytes) (a .all) (a .lent); valid = a .valid; uncrowded = a .uncrowded; graph = a .graph }
+
+  module _ {d b : List ℕ} {count : ℕ} (e : PeelEnds high n T numbers bytes d b count) where
+    pub settle-asks : SettleAsks high n m T count cells d b
+    settle-asks = record { small = a .lent .m-small; all = a .all; valid = a .valid; size = a .size; peeled = e .peeled; counts = e .counts; fillable = e .fillable }
+
+    pub past-peeling : Past high n m numbers bytes d b
+    past-peeling = subst (λ (j : ℕ). Past high n j numbers bytes d b) (sym (a .all)) (record { long = e .long; long-b = e .long-b; rest = e .rest; rest-b = e .rest-b })

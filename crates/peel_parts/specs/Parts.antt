@@ -62,3 +62,19 @@ pub record Says (c : PeelCall) (r : Peeling) (solution : List ℕ) : Type 0 wher
 -- what a run says does not depend on the areas
 unfoldable pub ranSays : Bool → ℕ → List Edge → List ℕ → PeelCall
 ranSays high n T cells = ran (numbersRoom high n (length T)) (bytesRoom high n (length T)) (length T) (answer n T) cells [] []
+
+-- no vertex lies on a crowd of edges
+pub record GraphAsks (high : Bool) (n m : ℕ) (T : List Edge) (cells numbers bytes : List ℕ) : Type 0 where
+  pub lent : Lent high n m numbers bytes
+  pub all : m ≡ length T
+  pub valid : Each (Valid n) T
+  pub size : length cells ≡ n
+  pub uncrowded : crowdedVertex n T ≡ n
+  pub graph : graphIn n numbers bytes ≡ build 0 T (empty n)
+
+-- what lies behind the room is as it was
+pub record Past (high : Bool) (n m : ℕ) (numbers bytes numbers′ bytes′ : List ℕ) : Type 0 where
+  pub long : length numbers′ ≡ length numbers
+  pub long-b : length bytes′ ≡ length bytes
+  pub rest : drop (numbersRoom high n m) numbers′ ≡ drop (numbersRoom high n m) numbers
+  pub rest-b : drop (bytesRoom high n m) bytes′ ≡ drop (bytesRoom high n m) bytes

@@ -1,7 +1,7 @@
 // The parts of a run over a table whose edges keep their rule.
 ghost use mathlib.Core.Path.{_≡_};
 ghost use Rattle.peel_walks.specs.Walks.{Begins, PeelEnds};
-ghost use Rattle.peel_parts.specs.Parts.{Built, PeelAsks, FillAsks, cellsAfter, SettleAsks, Says, ranSays};
+ghost use Rattle.peel_parts.specs.Parts.{Built, PeelAsks, FillAsks, cellsAfter, SettleAsks, GraphAsks, Says, Past, ranSays};
 use areas::zero::zero_words;
 use peel_steps::ends::Peeling;
 use peel_steps::ends::empty_graph;
@@ -73,4 +73,21 @@ pub fn settle(
 {
     fill_cells(edges, high, n, m, count, solution, numbers, bytes);
     ended(m, count)
+}
+
+// The run where no vertex lies on 64 edges.
+pub fn peel_and_fill(
+    edges: &[Edge],
+    high: bool,
+    n: usize,
+    m: usize,
+    solution: &mut [u64],
+    numbers: &mut [u32],
+    bytes: &mut [u8],
+) -> Peeling
+    requires { ⌜ GraphAsks high n m (now edges) (now solution) (now numbers) (now bytes) ⌝ }
+    ensures { λ r. ⌜ Says (ranSays high n (now (edges .entry)) (now (solution .entry))) r (now (solution .exit)) × Past high n m (now (numbers .entry)) (now (bytes .entry)) (now (numbers .exit)) (now (bytes .exit)) ⌝ }
+{
+    let count = peel_edges(edges, high, n, numbers, bytes);
+    settle(edges, high, n, m, count, solution, numbers, bytes)
 }

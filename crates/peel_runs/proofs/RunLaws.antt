@@ -1,5 +1,5 @@
 -- The parts of a peeler's run, put together.
-use mathlib.Core.Path.{_≡_, refl, sym, ap, _∙_, subst}
+use mathlib.Core.Path.{_≡_, refl, ap, _∙_}
 use mathlib.Core.List.{List, []}
 use mathlib.Core.Bool.{Bool, true, false}
 use Prim.Native.Nat.{ℕ, _≤_, _<_}
@@ -19,9 +19,9 @@ use Rattle.peel_steps.specs.declared.ends.Peeling.{Peeling}
 use Rattle.peel_steps.specs.Pictures.{numbersRoom, bytesRoom}
 use Rattle.peel_steps.specs.Ends.{Lent, Left}
 use Rattle.peel_steps.proofs.PictureLaws.{drop-agrees}
-use Rattle.peel_walks.specs.Walks.{Begins, PeelEnds}
-use Rattle.peel_parts.specs.Parts.{Built, PeelAsks, SettleAsks, Says, ranSays}
-use Rattle.peel_runs.specs.Runs.{GraphAsks, BuiltAsks, Admitted, Past, Leaves, runSays, runCall}
+use Rattle.peel_walks.specs.Walks.{Begins}
+use Rattle.peel_parts.specs.Parts.{Built, Says, ranSays, GraphAsks, Past}
+use Rattle.peel_runs.specs.Runs.{BuiltAsks, Admitted, Leaves, runSays, runCall}
 use Rattle.peel_parts.proofs.PartLaws.{room-least, lent-on}
 
 -- the room is zero where what lies behind it is as it was lent
@@ -37,17 +37,6 @@ past-more p q = record { long = q .long ∙ p .long; long-b = q .long-b ∙ p .l
 
 pub past-none : {high : Bool} {n m : ℕ} {numbers bytes : List ℕ} → Past high n m numbers bytes numbers bytes
 past-none = record { long = refl; long-b = refl; rest = refl; rest-b = refl }
-
-module _ {high : Bool} {n m : ℕ} {T : List Edge} {cells numbers bytes : List ℕ} (a : GraphAsks high n m T cells numbers bytes) where
-  pub peel-asks : PeelAsks high n T numbers bytes
-  peel-asks = record { lent = subst (λ (j : ℕ). Lent high n j numbers bytes) (a .all) (a .lent); valid = a .valid; uncrowded = a .uncrowded; graph = a .graph }
-
-  module _ {d b : List ℕ} {count : ℕ} (e : PeelEnds high n T numbers bytes d b count) where
-    pub settle-asks : SettleAsks high n m T count cells d b
-    settle-asks = record { small = a .lent .m-small; all = a .all; valid = a .valid; size = a .size; peeled = e .peeled; counts = e .counts; fillable = e .fillable }
-
-    pub past-peeling : Past high n m numbers bytes d b
-    past-peeling = subst (λ (j : ℕ). Past high n j numbers bytes d b) (sym (a .all)) (record { long = e .long; long-b = e .long-b; rest = e .rest; rest-b = e .rest-b })
 
 module _ {high : Bool} {n m low : ℕ} {T : List Edge} {cells numbers bytes : List ℕ} (a : BuiltAsks high n m low T cells numbers bytes) where
   pub ends-crowded : {r : Peeling} → low < n → r ≡ record { answer = CrowdedVertex low; report = noReport } → Says (runSays high n T cells) r cells

@@ -3,7 +3,7 @@ use mathlib.Core.Path.{_≡_}
 use mathlib.Core.List.{List, []}
 use mathlib.Core.Bool.{Bool}
 use Prim.Native.Nat.{ℕ}
-use lib.ListN.{length, drop}
+use lib.ListN.{length}
 use Rattle.gf2.specs.Equation.{Each}
 use Rattle.peeling.specs.declared.numbers.Edge.{Edge}
 use Rattle.peel_rules.specs.Edges.{Valid}
@@ -13,15 +13,6 @@ use Rattle.peel_rules.specs.Calls.{PeelCall, admitted}
 use Rattle.peel_steps.specs.declared.ends.Peeling.{Peeling}
 use Rattle.peel_steps.specs.Pictures.{graphIn, numbersRoom, bytesRoom}
 use Rattle.peel_steps.specs.Ends.{Lent}
-
--- no vertex lies on a crowd of edges
-pub record GraphAsks (high : Bool) (n m : ℕ) (T : List Edge) (cells numbers bytes : List ℕ) : Type 0 where
-  pub lent : Lent high n m numbers bytes
-  pub all : m ≡ length T
-  pub valid : Each (Valid n) T
-  pub size : length cells ≡ n
-  pub uncrowded : crowdedVertex n T ≡ n
-  pub graph : graphIn n numbers bytes ≡ build 0 T (empty n)
 
 -- the graph is made, and the lowest vertex that lies on a crowd of edges is known
 pub record BuiltAsks (high : Bool) (n m low : ℕ) (T : List Edge) (cells numbers bytes : List ℕ) : Type 0 where
@@ -38,13 +29,6 @@ pub record Admitted (high : Bool) (n m : ℕ) (T : List Edge) (solution numbers 
   pub all : m ≡ length T
   pub valid : Each (Valid n) T
   pub cells : length solution ≡ n
-
--- what lies behind the room is as it was
-pub record Past (high : Bool) (n m : ℕ) (numbers bytes numbers′ bytes′ : List ℕ) : Type 0 where
-  pub long : length numbers′ ≡ length numbers
-  pub long-b : length bytes′ ≡ length bytes
-  pub rest : drop (numbersRoom high n m) numbers′ ≡ drop (numbersRoom high n m) numbers
-  pub rest-b : drop (bytesRoom high n m) bytes′ ≡ drop (bytesRoom high n m) bytes
 
 -- the answer and every lent cell are as the definition of the call says
 pub record Leaves (c : PeelCall) (r : Peeling) (solution numbers bytes : List ℕ) : Type 0 where

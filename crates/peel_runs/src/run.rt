@@ -1,30 +1,12 @@
 // The run over a table whose edges keep their rule.
-ghost use Rattle.peel_runs.specs.Runs.{GraphAsks, BuiltAsks, Admitted, Past, Leaves, runSays, runCall};
-ghost use Rattle.peel_parts.specs.Parts.{Says, ranSays};
+ghost use Rattle.peel_runs.specs.Runs.{BuiltAsks, Admitted, Leaves, runSays, runCall};
+ghost use Rattle.peel_parts.specs.Parts.{Past, Says};
 use peel_parts::parts::build_graph;
-use peel_parts::parts::peel_edges;
-use peel_parts::parts::settle;
+use peel_parts::parts::peel_and_fill;
 use peel_steps::ends::Peeling;
 use peel_steps::ends::clear_room;
 use peel_steps::ends::crowded;
 use peeling::numbers::Edge;
-
-// The run where no vertex lies on 64 edges.
-pub fn peel_and_fill(
-    edges: &[Edge],
-    high: bool,
-    n: usize,
-    m: usize,
-    solution: &mut [u64],
-    numbers: &mut [u32],
-    bytes: &mut [u8],
-) -> Peeling
-    requires { ⌜ GraphAsks high n m (now edges) (now solution) (now numbers) (now bytes) ⌝ }
-    ensures { λ r. ⌜ Says (ranSays high n (now (edges .entry)) (now (solution .entry))) r (now (solution .exit)) × Past high n m (now (numbers .entry)) (now (bytes .entry)) (now (numbers .exit)) (now (bytes .exit)) ⌝ }
-{
-    let count = peel_edges(edges, high, n, numbers, bytes);
-    settle(edges, high, n, m, count, solution, numbers, bytes)
-}
 
 // The run once the graph is made.
 pub fn run_graph(

@@ -13,14 +13,14 @@ use Rattle.walk_rules.proofs.Lent.{val, Shr, Mut}
 use Rattle.peel_runs.proofs.RunRules.{Crowdedᶜ, calls-crowded, PeelAndFillᶜ, calls-peel-and-fill}
 use Rattle.peel_steps.proofs.ends.crowded.Symbol as crowded-def
 use Rattle.peel_steps.proofs.ends.crowded.Met as crowded-thm
-use Rattle.peel_runs.proofs.run.peel_and_fill.Symbol as peel-and-fill-def
-use Rattle.peel_runs.proofs.run.peel_and_fill.Met as peel-and-fill-thm
+use Rattle.peel_parts.proofs.parts.peel_and_fill.Symbol as peel-and-fill-def
+use Rattle.peel_parts.proofs.parts.peel_and_fill.Met as peel-and-fill-thm
 use Rattle.peel_runs.proofs.run.run_graph.Key.{name as #self}
 use Rattle.peel_runs.proofs.run.run_graph as self
 use Rattle.peel_runs.proofs.run.run_graph.Statement as stated
 use Rattle.peel_runs.proofs.run.run_graph.Code as code
-use Rattle.peel_runs.specs.Runs.{BuiltAsks, Past, runSays}
-use Rattle.peel_parts.specs.Parts.{Says}
+use Rattle.peel_runs.specs.Runs.{BuiltAsks, runSays}
+use Rattle.peel_parts.specs.Parts.{Past, Says}
 use Rattle.peel_runs.proofs.RunLaws.{ends-crowded, graph-asks, ran-on, past-none}
 
 abbrev stayed : Stays (self.ended .signature .params) (self.ended .kept)
@@ -90,4 +90,4 @@ run-graph-spec 𝓤 H 𝓜 𝓖 𝓡 =
     (tables 𝓤 H 𝓜 𝓡 code.env .C) (tables 𝓤 H 𝓜 𝓡 code.env .Λ) #self code.function (code.unfolded 𝓤 H 𝓜 𝓡)
     (meets 𝓤 H (𝓖 .A) (givenOf 𝓤 H 𝓜 𝓖) (𝓜 .mem) (𝓡 .run) (tablesOf 𝓤 H 𝓜 (tables 𝓤 H 𝓜 𝓡 code.env))
     (cited 𝓤 H (Crowdedᶜ 𝓤 H (𝓖 .A) (𝓜 .mem) (𝓡 .run)) 𝓜 𝓡 code.env crowded-def.name crowded-def.routine code.calls-peel-steps·ends·crowded (crowded-thm.met 𝓤 H 𝓜 𝓖 𝓡))
-    (cited 𝓤 H (PeelAndFillᶜ 𝓤 H (𝓖 .A) (𝓜 .mem) (𝓡 .run)) 𝓜 𝓡 code.env peel-and-fill-def.name peel-and-fill-def.routine code.calls-peel-runs·run·peel-and-fill (peel-and-fill-thm.met 𝓤 H 𝓜 𝓖 𝓡)))
+    (cited 𝓤 H (PeelAndFillᶜ 𝓤 H (𝓖 .A) (𝓜 .mem) (𝓡 .run)) 𝓜 𝓡 code.env peel-and-fill-def.name peel-and-fill-def.routine code.calls-peel-parts·parts·peel-and-fill (peel-and-fill-thm.met 𝓤 H 𝓜 𝓖 𝓡)))

@@ -9,18 +9,17 @@ use Rattle.peel_steps.specs.declared.ends.Peeling.{Peeling}
 use Rattle.peel_steps.proofs.ends.Peeling as Peelingᴿ
 use Rattle.peel_steps.proofs.ends.Peeling.Laws as Peelingᴸ
 use Rattle.walk_rules.proofs.Lent.{val, Shr, Mut}
-use Rattle.peel_runs.proofs.RunRules.{PeelEdgesᶜ, calls-peel-edges, Settleᶜ, calls-settle}
+use Rattle.peel_parts.proofs.PartRules.{PeelEdgesᶜ, calls-peel-edges, Settleᶜ, calls-settle}
 use Rattle.peel_parts.proofs.parts.peel_edges.Symbol as peel-edges-def
 use Rattle.peel_parts.proofs.parts.peel_edges.Met as peel-edges-thm
 use Rattle.peel_parts.proofs.parts.settle.Symbol as settle-def
 use Rattle.peel_parts.proofs.parts.settle.Met as settle-thm
-use Rattle.peel_runs.proofs.run.peel_and_fill.Key.{name as #self}
-use Rattle.peel_runs.proofs.run.peel_and_fill as self
-use Rattle.peel_runs.proofs.run.peel_and_fill.Statement as stated
-use Rattle.peel_runs.proofs.run.peel_and_fill.Code as code
-use Rattle.peel_runs.specs.Runs.{GraphAsks, Past}
-use Rattle.peel_parts.specs.Parts.{Says, ranSays}
-use Rattle.peel_runs.proofs.RunLaws.{peel-asks, settle-asks, past-peeling}
+use Rattle.peel_parts.proofs.parts.peel_and_fill.Key.{name as #self}
+use Rattle.peel_parts.proofs.parts.peel_and_fill as self
+use Rattle.peel_parts.proofs.parts.peel_and_fill.Statement as stated
+use Rattle.peel_parts.proofs.parts.peel_and_fill.Code as code
+use Rattle.peel_parts.specs.Parts.{GraphAsks, Past, Says, ranSays}
+use Rattle.peel_parts.proofs.PartLaws.{peel-asks, settle-asks, past-peeling}
 
 abbrev stayed : Stays (self.ended .signature .params) (self.ended .kept)
 stayed = (stay-none-slice (0 ∷ []) tt (plain (λ _. Edgeᴿ.the-row)) yes, (stay-dropped (plain (λ _. bool)) yes, (stay-dropped (plain (λ _. usize)) yes, (stay-dropped (plain (λ _. usize)) yes, (stay-slice (1 ∷ []) tt (plain (λ _. u64)), (stay-slice (2 ∷ []) tt (plain (λ _. u32)), (stay-slice (3 ∷ []) tt (plain (λ _. u8)), tt)))))))
