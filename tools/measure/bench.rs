@@ -21,15 +21,15 @@ fn phase(name: &str, work: impl FnOnce()) {
     bench_mark(1);
 }
 
-/// Random edges that both peelers can peel, whose values are those of planted cells.
-fn peelable(n: usize, m: usize, seed: u64) -> Vec<Edge> {
+/// Random edges whose values are those of planted cells; up to 0.8 of the vertices such that they can be peeled.
+fn planted_edges(n: usize, m: usize, seed: u64) -> Vec<Edge> {
     let mut r = Random(seed);
     let planted = r.words(n);
     loop {
         let vertices: Vec<[u32; 3]> = (0..m).map(|_| three(&mut r, n)).collect();
         let edges: Vec<Edge> = vertices.iter().map(|&v| Edge { vertices: v, value: v.iter().fold(0, |c, &u| c ^ planted[u as usize]) }).collect();
         let values: Vec<u64> = edges.iter().map(|e| e.value).collect();
-        if original::run(original::ready(n, vertices, &values), true, &mut original::Log::default()).is_some() {
+        if 10 * m > 8 * n || original::run(original::ready(n, vertices, &values), true, &mut original::Log::default()).is_some() {
             return edges;
         }
     }
@@ -84,7 +84,7 @@ fn peeler(high: bool, n: usize, edges: &[Edge]) {
 }
 
 pub fn run(engine: &str, n: usize, m: usize, seed: u64) {
-    let edges = peelable(n, m, seed);
+    let edges = planted_edges(n, m, seed);
     let eqs: Vec<Eq> = edges.iter().map(|e| { let mut v = e.vertices.to_vec(); v.sort(); (v, e.value) }).collect();
     let (s, w) = (system(n, &eqs), n.div_ceil(64));
     match engine {
