@@ -7,7 +7,7 @@
 //!     driver graphs random SEED SECONDS    graphs of every size, with vertices on 62 to 66 edges among them,
 //!     driver graphs damaged SEED SECONDS   and with one to three things wrong
 //!     driver limits                    the largest sizes, and one above each
-//!     driver bench ENGINE N M SEED     one input on both sides, for counting instructions (tools/measure)
+//!     driver bench ENGINE N M SEED PHASE   one input on both sides, for counting instructions (tools/measure)
 //!
 //! Prints how many calls were compared, by engine and by the number given, and each difference's smallest input; ends with 1 if there is one.
 #[path = "../measure/bench.rs"]
@@ -121,9 +121,9 @@ fn main() {
             limits::largest(&mut tally);
             graph_inputs::largest(&mut tally);
         }
-        ["bench", engine, _, _, _] => return bench::run(engine, number(2) as usize, number(3) as usize, number(4)),
+        ["bench", engine, _, _, _, only] => return bench::run(engine, number(2) as usize, number(3) as usize, number(4), only),
         _ => {
-            eprintln!("usage: driver [graphs] exhaustive LEVEL | [graphs] random SEED SECONDS | [graphs] damaged SEED SECONDS | limits | bench ENGINE N M SEED");
+            eprintln!("usage: driver [graphs] exhaustive LEVEL | [graphs] random SEED SECONDS | [graphs] damaged SEED SECONDS | limits | bench ENGINE N M SEED PHASE");
             std::process::exit(2);
         }
     }

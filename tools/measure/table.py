@@ -1,6 +1,4 @@
 """table.py COUNTER OUT DRIVER SYMBOLS [ENGINE..]: runs `driver bench` for each engine and size under the counter, and prints a table of the phases."""
-import glob
-import os
 import re
 import subprocess
 import sys
@@ -21,11 +19,12 @@ def qemu(out, command, symbols):
 
 
 def callgrind(out, command, _):
-    for f in glob.glob(out + '/counts*'):
-        os.remove(f)
-    run = subprocess.run(['valgrind', '-q', '--tool=callgrind', '--callgrind-out-file=%s/counts' % out, '--dump-before=bench_mark'] + command, capture_output=True, text=True, check=True)
-    dumps = sorted(glob.glob(out + '/counts.*'), key=lambda f: int(f.rsplit('.', 1)[1]))
-    return run.stdout.split(), [(int(re.search(r'^totals: (\d+)', open(f).read(), re.M).group(1)), []) for f in dumps]
+    """Each phase as the difference of a run that has it and one that has none."""
+    def total(phase):
+        run = subprocess.run(['valgrind', '-q', '--tool=callgrind', '--callgrind-out-file=%s/counts' % out] + command[:-1] + [phase], capture_output=True, text=True, check=True)
+        return run.stdout.split(), int(re.search(r'^totals: (\d+)', open(out + '/counts').read(), re.M).group(1))
+    names, base = total('none')
+    return names, [(count, []) for name in names for count in (0, total(name)[1] - base)]
 
 
 def main(counter, out, driver, symbols, engines):
@@ -33,7 +32,7 @@ def main(counter, out, driver, symbols, engines):
     print('|---|---|---|---|---|---|---|---|---|')
     for engine in engines or ENGINES:
         for n, m in ENGINES[engine]:
-            names, phases = counter(out, [driver, 'bench', engine, str(n), str(m), '1'], symbols)
+            names, phases = counter(out, [driver, 'bench', engine, str(n), str(m), '1', 'all'], symbols)
             # before each named phase stands what led to it
             count = {name: phases[2 * k + 1] for k, name in enumerate(names)}
             rust, here, rules, zeroing = (count[k][0] for k in ('rust', 'here', 'rules', 'zeroing'))
