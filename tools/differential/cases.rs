@@ -2,7 +2,7 @@
 use crate::calls::{self, Answer, Lent, LentAreas, Rows, System};
 use crate::graphs::{self, Graph, PeelAreas};
 use crate::rules;
-use crate::shrink::exact;
+use crate::shrink::{exact, system};
 use std::panic::catch_unwind;
 
 #[derive(Clone, Debug)]
@@ -75,7 +75,9 @@ pub fn compare(case: &Case) -> Result<u32, String> {
             let got = calls::dense(s, &mut lent);
             same("rows", &s.rows, &kept.rows)?;
             same("constants", &s.constants, &kept.constants)?;
-            settle(got, &lent, expect_dense(s, a)?)
+            let number = settle(got, &lent, expect_dense(s, a)?)?;
+            if number == 0 { checked(&system(s.n, &listed(s)), lent.solution.cells())?; }
+            Ok(number)
         }
         Case::Peel(g, a) => graphs::compare_peel(g, a),
         Case::Lookup { table, cells } => graphs::compare_lookup(table, *cells),
@@ -92,10 +94,24 @@ fn compare_system(s: &System, a: &Areas, call: fn(&System, &mut LentAreas) -> An
     same("constants", &s.constants, &kept.constants)?;
     let before = ladder(rules::sparse(s), s.n, a, room);
     let number = settle(got, &lent, outcome(before, a, room, || run(s.n, &equations(s)))?)?;
-    if number == 0 && calls::check(s, lent.solution.cells()) != Answer(0, 0) {
-        return Err("the solution is not what check says yes to".into());
-    }
+    if number == 0 { checked(s, lent.solution.cells())?; }
     Ok(number)
+}
+
+/// A solution is what `check` says yes to.
+pub fn checked(s: &System, solution: &[u64]) -> Result<(), String> {
+    match calls::check(s, solution) {
+        Answer(0, 0) => Ok(()),
+        // the rows of a dense system may list more variables than a sparse one may have
+        Answer(1, 0) if s.vars.len() > 65_536 => Ok(()),
+        other => Err(format!("check says {other:?} to the solution")),
+    }
+}
+
+/// The equations of a dense system.
+fn listed(s: &Rows) -> Vec<original::Eq> {
+    let row = |i: usize| (0..s.n).filter(|c| s.rows[i * s.w + c / 64] >> (c % 64) & 1 == 1).map(|c| c as u32).collect();
+    (0..s.m).map(|i| (row(i), s.constants[i])).collect()
 }
 
 /// Sparse elimination solves what lazy elimination solves.

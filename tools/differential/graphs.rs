@@ -1,6 +1,6 @@
 //! The peelers and lookup: what a call is lent, and the comparison with the Rust.
 use crate::calls::{self, Answer, Edge, Lent, LentPeelAreas, Told};
-use crate::cases::same;
+use crate::cases::{checked, same};
 use crate::rules;
 use crate::shrink::system;
 use std::panic::catch_unwind;
@@ -121,9 +121,7 @@ fn agree(g: &Graph, got: &Told, solution: &[u64], a: &PeelAreas) -> Result<(), S
         return Ok(());
     }
     let eqs: Vec<original::Eq> = g.edges.iter().map(|e| { let mut v = e.vertices.to_vec(); v.sort(); (v, e.value) }).collect();
-    if calls::check(&system(g.n, &eqs), solution) != Answer(0, 0) {
-        return Err("the solution is not what check says yes to".into());
-    }
+    checked(&system(g.n, &eqs), solution)?;
     match g.edges.iter().find(|e| calls::lookup(solution, e.vertices) != (Answer(0, 0), e.value)) {
         Some(e) => Err(format!("lookup does not find the value of {e:?}")),
         None => Ok(()),
