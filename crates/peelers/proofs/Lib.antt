@@ -1,12 +1,6 @@
-pub mod Walk
-pub mod Again
-pub mod Lent
-pub mod Loops
-pub mod Shared
 pub mod CallRules
-pub mod RunRules
+pub mod EitherCall
+pub mod ReadingLaws
 pub mod ProgramRules
-pub mod TableLaws
-pub mod PeelLaws
-pub mod RunLaws
-pub mod CallLaws
+pub mod ProgramLaws
+pub mod Examples

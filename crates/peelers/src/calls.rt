@@ -1,53 +1,10 @@
 // The peelers.
-ghost use mathlib.Core.Path.{_≡_};
 ghost use mathlib.Core.Bool.{true, false};
 ghost use Rattle.peel_rules.specs.Calls.{peelLowCall, peelHighCall};
-ghost use Rattle.peelers.specs.Run.{Judged, Leaves, peelingCall};
-use crate::run::run_peeler;
-use crate::table::bad_edge;
-use crate::table::edge_count;
+ghost use Rattle.peel_runs.specs.Runs.{Leaves};
+use peel_calls::call::peel_by_sig_vals;
 use peel_steps::ends::Peeling;
-use peel_steps::rules::opens;
-use peel_steps::rules::refusal;
 use peeling::numbers::Edge;
-
-// The run, or the refusal where it is not allowed.
-pub fn enter(
-    edges: &[Edge],
-    high: bool,
-    n: usize,
-    m: usize,
-    bad: usize,
-    allowed: bool,
-    solution: &mut [u64],
-    numbers: &mut [u32],
-    bytes: &mut [u8],
-) -> Peeling
-    requires { ⌜ Judged high n m bad allowed (now edges) (now solution) (now numbers) (now bytes) ⌝ }
-    ensures { λ r. ⌜ Leaves (peelingCall high n (now (edges .entry)) (now (solution .entry)) (now (numbers .entry)) (now (bytes .entry))) r (now (solution .exit)) (now (numbers .exit)) (now (bytes .exit)) ⌝ }
-{
-    if allowed {} else {
-        return refusal(high, n, m, bad, solution.len(), numbers.len(), bytes.len());
-    }
-    run_peeler(edges, high, n, m, solution, numbers, bytes)
-}
-
-// The call of both peelers, which differ in what they keep of a peeled edge.
-pub fn peel_by_sig_vals(
-    edges: &[Edge],
-    high: bool,
-    n: usize,
-    solution: &mut [u64],
-    numbers: &mut [u32],
-    bytes: &mut [u8],
-) -> Peeling
-    ensures { λ r. ⌜ Leaves (peelingCall high n (now (edges .entry)) (now (solution .entry)) (now (numbers .entry)) (now (bytes .entry))) r (now (solution .exit)) (now (numbers .exit)) (now (bytes .exit)) ⌝ }
-{
-    let m = edge_count(edges);
-    let bad = bad_edge(edges, n);
-    let allowed = opens(high, n, m, bad, solution.len(), numbers.len(), bytes.len());
-    enter(edges, high, n, m, bad, allowed, solution, numbers, bytes)
-}
 
 // Keeps the number and the side of each peeled edge.
 pub fn peel_by_sig_vals_high_mem(

@@ -2,7 +2,7 @@
 ghost use mathlib.Core.Path.{_≡_};
 ghost use lib.ListN.{take};
 ghost use Rattle.peel_rules.specs.Calls.{peelLowCall, peelHighCall};
-ghost use Rattle.peelers.specs.Run.{Leaves};
+ghost use Rattle.peel_runs.specs.Runs.{Leaves};
 ghost use Rattle.peelers.specs.Programs.{atMost256};
 use crate::calls::peel_by_sig_vals_high_mem;
 use crate::calls::peel_by_sig_vals_low_mem;

@@ -1,9 +1,9 @@
 -- `peel_low_of` meets its contract: the array in a local of its own is lent in part as a `&[Edge]`, for a lifetime that is made for the call, and is taken back.
 -- A walk of the MIR: all that is known of a callee is its contract. Assumes nothing.
-use Rattle.peelers.proofs.Walk.{_≡_, refl, sym, _∙_, ap, subst, ℕ, suc, _+_, _*_, _-_, _<_, _≤_, _^_, arith, List, [], _∷_, Bool, true, false, not, length, getD, T, ltb, ltb→lt, nltb→le, lit<, URA, fullShare, Ty, Place, Operand, Code, Lifetime, named, erased, imm, mut, w8, w16, w32, w64, tyInt, tyBool, tyUnit, tyRef, tyPtr, Val, vunit, vbool, vint, vptr, vstruct, vnil, vcons, SProp, ent, sep, emp, via, fst∗, snd∗, exE, id⊢, Lft, GName, Share, Fml, ftrue, fat, froom, fdies, flft, fobs, fbor, Memory, Routine, Heap, Calls, Loops, Env, Wp, WpFn, Tables, atReturn, afterTurn, Atoms, sem, Fun, fact, givenOf, tables, tablesOf, Given, Item, After, Seq, Step, step, Soaks, Goal, ‵, raw, given, _⊛_, some, later, ⋆, anyQ, atRet, runs, lands, _$_, _∵_, !, qed, by, move, keep, let-go, use0, use1, use2, use3, split, join, learn, pick, rewrite, fsplit, fsplit3, fjoin, fjoin3, feqL, feqI, fltI, suffices, frame, await, done, agg, whole, sub, look-in, store-in, Opds, look, look-raw, store, store-raw, init, forget, stop, hop, fld, from, load, lit, addr, unit-lit, true-lit, false-lit, of-opd, bin, un, and-then, no-more, assigns, assigns-last, land, land-last, first, blocks, branches, skips, jumps, loops, again, returns, returns-within, enter, alloc1, alloc0, params1, pass1, pass0, free1, free0, exec, Body, lft-new, lft-end, FmC, fmOf, WpFn-mono, yes, RattleType, owns, Is, shows, mem, pointee, uint-makes, uint-vals, uint-tells, uint-lawful, bool-makes, bool-vals, bool-tells, bool-lawful, nothing-makes, nothing-lawful, u8, u16, u32, u64, usize, bool, unit, RefT, MutRef, ShrRef, now, ptr-vals, mut-tells, shr-tells, plain, sliceTy, sliceVal, ShrSlice, MutSlice, Room, finally, slice-vals, shr-slice-tells, shr-slice-copy, mut-slice-tells, place-is, elem-out, elem-back, looks-slice, shuts-slice, only, opens, closes, looks, shuts, peeks, facts, owned, heard, nothing, spelt, Contract, Triple, calls-at, calls-at-last, ensured, lasts, Vals, onEntry, Meets, tripleOf, entered, cited, says, needs, Stays, stay-none, stay-none-slice, stay-none-ref, stay-slice, gave-slice, stay-ref, gave-ref, walkOf, Walks, ends-at, walked, goes-none, goes-none-slice, goes-none-ref, goes-slice, goes-gave-slice, goes-ref, goes-gave-ref, walk-meets}
+use Rattle.walk_rules.proofs.Walk.{_≡_, refl, sym, _∙_, ap, subst, ℕ, _<_, _≤_, _^_, arith, List, [], _∷_, length, T, URA, fullShare, Ty, named, erased, imm, w64, tyRef, Val, vint, SProp, ent, emp, via, fst∗, Lft, GName, Share, ftrue, fat, flft, Memory, Routine, Heap, WpFn, Tables, Atoms, sem, Fun, givenOf, tables, tablesOf, Given, ‵, _⊛_, some, later, ⋆, _$_, _∵_, !, qed, by, move, let-go, use1, use2, split, join, pick, rewrite, fsplit, fjoin, feqI, suffices, frame, await, done, agg, whole, sub, look-in, look, init, forget, stop, hop, fld, from, load, addr, of-opd, and-then, no-more, assigns, land, returns, enter, alloc1, alloc0, params1, pass1, pass0, free1, free0, lft-new, lft-end, FmC, fmOf, WpFn-mono, yes, RattleType, owns, Is, shows, mem, pointee, uint-vals, uint-tells, u8, u32, u64, usize, RefT, now, plain, sliceTy, sliceVal, MutSlice, Room, slice-vals, mut-slice-tells, only, owned, nothing, spelt, Triple, Vals, onEntry, Meets, tripleOf, entered, cited, says, Stays, stay-slice, walkOf, Walks, ends-at, walked, goes-slice, walk-meets}
 use mathlib.Core.List.{_++_}
 use lib.ListN.{take, drop, take-append-drop}
-use lib.Seq.{length-take-le, take-all}
+use lib.Seq.{length-take-le}
 use mir.Syntax.{tyArray}
 use mir.Val.{WT, hasTy}
 use base.Fml.{fsep, flent}
@@ -27,10 +27,10 @@ use Rattle.peel_steps.specs.declared.ends.Peeling.{Peeling}
 use Rattle.peel_steps.proofs.ends.Peeling as Peelingᴿ
 use Rattle.peel_steps.proofs.ends.Peeling.Laws as Peelingᴸ
 use Rattle.peel_rules.specs.Calls.{peelLowCall}
-use Rattle.peelers.specs.Run.{Leaves}
+use Rattle.peel_runs.specs.Runs.{Leaves}
 use Rattle.peelers.specs.Programs.{atMost256}
-use Rattle.peelers.proofs.Lent.{val, Shr, Mut}
-use Rattle.peelers.proofs.TableLaws.{first-256, within-256}
+use Rattle.walk_rules.proofs.Lent.{val, Shr, Mut}
+use Rattle.peelers.proofs.ProgramLaws.{first-256, within-256}
 use Rattle.peelers.proofs.ProgramRules.{AtMost256ᶜ, calls-at-most-256, PeelBySigValsLowMemᶜ, calls-peel-by-sig-vals-low-mem}
 use Rattle.peelers.proofs.programs.at_most_256.Symbol as at-most-256-def
 use Rattle.peelers.proofs.programs.at_most_256.Met as at-most-256-thm

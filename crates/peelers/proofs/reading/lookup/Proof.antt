@@ -1,15 +1,11 @@
 use Rattle.peel_rules.specs.Edges.{edge}
-use Rattle.peelers.proofs.TableLaws.{is-valid}
+use Rattle.peelers.proofs.ReadingLaws.{is-valid}
 use Rattle.peel_rules.specs.Peel.{edgeXor}
 use borrow.Author.Tests.{le-leb, lt-leb}
 use mathlib.Core.Path.{refl, sym, _∙_}
-use native.Mathlib.Omega.{arith}
 use borrow.Author.Needs.{needs}
 use Rattle.peelers.proofs.reading.lookup.Statement.{statement}
 use Rattle.peelers.proofs.reading.lookup.Tie as tie
-use Rattle.peelers.proofs.reading.lookup.Reads as reads
-use Rattle.peelers.proofs.reading.lookup.Lts as lts
-use Rattle.peel_steps.proofs.rules.keeps_rule.Reads as keeps-rule-reads
 
 -- src/reading.rt:22:9
 returns : tie.Need-returns

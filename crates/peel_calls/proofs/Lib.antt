@@ -1,0 +1,2 @@
+pub mod CallRules
+pub mod CallLaws

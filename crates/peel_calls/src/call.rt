@@ -1,0 +1,48 @@
+// The call of both peelers.
+ghost use Rattle.peel_runs.specs.Runs.{Leaves};
+ghost use Rattle.peel_calls.specs.Judging.{Judged, peelingCall};
+use peel_runs::run::run_peeler;
+use peel_steps::ends::Peeling;
+use peel_steps::rules::opens;
+use peel_steps::rules::refusal;
+use peel_walks::table::bad_edge;
+use peel_walks::table::edge_count;
+use peeling::numbers::Edge;
+
+// The run, or the refusal where it is not allowed.
+pub fn enter(
+    edges: &[Edge],
+    high: bool,
+    n: usize,
+    m: usize,
+    bad: usize,
+    allowed: bool,
+    solution: &mut [u64],
+    numbers: &mut [u32],
+    bytes: &mut [u8],
+) -> Peeling
+    requires { ⌜ Judged high n m bad allowed (now edges) (now solution) (now numbers) (now bytes) ⌝ }
+    ensures { λ r. ⌜ Leaves (peelingCall high n (now (edges .entry)) (now (solution .entry)) (now (numbers .entry)) (now (bytes .entry))) r (now (solution .exit)) (now (numbers .exit)) (now (bytes .exit)) ⌝ }
+{
+    if allowed {} else {
+        return refusal(high, n, m, bad, solution.len(), numbers.len(), bytes.len());
+    }
+    run_peeler(edges, high, n, m, solution, numbers, bytes)
+}
+
+// The call of both peelers, which differ in what they keep of a peeled edge.
+pub fn peel_by_sig_vals(
+    edges: &[Edge],
+    high: bool,
+    n: usize,
+    solution: &mut [u64],
+    numbers: &mut [u32],
+    bytes: &mut [u8],
+) -> Peeling
+    ensures { λ r. ⌜ Leaves (peelingCall high n (now (edges .entry)) (now (solution .entry)) (now (numbers .entry)) (now (bytes .entry))) r (now (solution .exit)) (now (numbers .exit)) (now (bytes .exit)) ⌝ }
+{
+    let m = edge_count(edges);
+    let bad = bad_edge(edges, n);
+    let allowed = opens(high, n, m, bad, solution.len(), numbers.len(), bytes.len());
+    enter(edges, high, n, m, bad, allowed, solution, numbers, bytes)
+}

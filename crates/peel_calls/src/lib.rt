@@ -1,0 +1,2 @@
+// The call that both signature peelers share.
+pub mod call; // refused, or run

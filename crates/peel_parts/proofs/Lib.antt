@@ -1,0 +1,2 @@
+pub mod PartRules
+pub mod PartLaws

@@ -1,0 +1,76 @@
+// The parts of a run over a table whose edges keep their rule.
+ghost use mathlib.Core.Path.{_≡_};
+ghost use Rattle.peel_walks.specs.Walks.{Begins, PeelEnds};
+ghost use Rattle.peel_parts.specs.Parts.{Built, PeelAsks, FillAsks, cellsAfter, SettleAsks, Says, ranSays};
+use areas::zero::zero_words;
+use peel_steps::ends::Peeling;
+use peel_steps::ends::empty_graph;
+use peel_steps::ends::ended;
+use peel_steps::visiting::preload;
+use peel_walks::loops::add_edges;
+use peel_walks::loops::assign;
+use peel_walks::loops::peel;
+use peeling::numbers::Edge;
+
+// Makes the graph of the edges, and hands back the lowest vertex that came to its 64th incidence, or n.
+pub fn build_graph(edges: &[Edge], n: usize, numbers: &mut [u32], bytes: &mut [u8]) -> usize
+    requires { ⌜ Begins n (now edges) (now numbers) (now bytes) ⌝ }
+    ensures { λ r. ⌜ Built n (now (edges .entry)) (now (numbers .entry)) (now (bytes .entry)) (now (numbers .exit)) (now (bytes .exit)) r ⌝ }
+{
+    empty_graph(n, numbers, bytes);
+    add_edges(edges, n, numbers, bytes)
+}
+
+// Peels the edges that can be peeled, and hands back how many they are.
+pub fn peel_edges(
+    edges: &[Edge],
+    high: bool,
+    n: usize,
+    numbers: &mut [u32],
+    bytes: &mut [u8],
+) -> usize
+    requires { ⌜ PeelAsks high n (now edges) (now numbers) (now bytes) ⌝ }
+    ensures { λ r. ⌜ PeelEnds high n (now (edges .entry)) (now (numbers .entry)) (now (bytes .entry)) (now (numbers .exit)) (now (bytes .exit)) r ⌝ }
+{
+    let first = preload(n, numbers, bytes);
+    peel(edges, high, n, first, numbers, bytes)
+}
+
+// Fills the cells if every edge is peeled.
+pub fn fill_cells(
+    edges: &[Edge],
+    high: bool,
+    n: usize,
+    m: usize,
+    count: usize,
+    solution: &mut [u64],
+    numbers: &[u32],
+    bytes: &[u8],
+)
+    requires { ⌜ FillAsks high n (now edges) count (now solution) (now numbers) (now bytes) ⌝ }
+    ensures { λ _. ⌜ now (solution .exit) ≡ cellsAfter high n (now (edges .entry)) m count (now (solution .entry)) (now (numbers .entry)) (now (bytes .entry)) ⌝ }
+{
+    if count < m {
+        return;
+    }
+    zero_words(solution, 0, n);
+    assign(edges, high, n, count, solution, numbers, bytes);
+}
+
+// Fills, and says whether the edges are solved or stuck.
+pub fn settle(
+    edges: &[Edge],
+    high: bool,
+    n: usize,
+    m: usize,
+    count: usize,
+    solution: &mut [u64],
+    numbers: &[u32],
+    bytes: &[u8],
+) -> Peeling
+    requires { ⌜ SettleAsks high n m (now edges) count (now solution) (now numbers) (now bytes) ⌝ }
+    ensures { λ r. ⌜ Says (ranSays high n (now (edges .entry)) (now (solution .entry))) r (now (solution .exit)) ⌝ }
+{
+    fill_cells(edges, high, n, m, count, solution, numbers, bytes);
+    ended(m, count)
+}

@@ -1,0 +1,2 @@
+pub mod RunRules
+pub mod RunLaws

@@ -1,0 +1,62 @@
+-- What the run over the table asks, and what it leaves.
+use mathlib.Core.Path.{_≡_}
+use mathlib.Core.List.{List, []}
+use mathlib.Core.Bool.{Bool}
+use Prim.Native.Nat.{ℕ}
+use lib.ListN.{length, drop}
+use Rattle.gf2.specs.Equation.{Each}
+use Rattle.peeling.specs.declared.numbers.Edge.{Edge}
+use Rattle.peel_rules.specs.Edges.{Valid}
+use Rattle.peel_rules.specs.Peel.{answer, crowdedVertex}
+use Rattle.peel_rules.specs.Machine.{build, empty}
+use Rattle.peel_rules.specs.Calls.{PeelCall, admitted}
+use Rattle.peel_steps.specs.declared.ends.Peeling.{Peeling}
+use Rattle.peel_steps.specs.Pictures.{graphIn, numbersRoom, bytesRoom}
+use Rattle.peel_steps.specs.Ends.{Lent}
+
+-- no vertex lies on a crowd of edges
+pub record GraphAsks (high : Bool) (n m : ℕ) (T : List Edge) (cells numbers bytes : List ℕ) : Type 0 where
+  pub lent : Lent high n m numbers bytes
+  pub all : m ≡ length T
+  pub valid : Each (Valid n) T
+  pub size : length cells ≡ n
+  pub uncrowded : crowdedVertex n T ≡ n
+  pub graph : graphIn n numbers bytes ≡ build 0 T (empty n)
+
+-- the graph is made, and the lowest vertex that lies on a crowd of edges is known
+pub record BuiltAsks (high : Bool) (n m low : ℕ) (T : List Edge) (cells numbers bytes : List ℕ) : Type 0 where
+  pub lent : Lent high n m numbers bytes
+  pub all : m ≡ length T
+  pub valid : Each (Valid n) T
+  pub size : length cells ≡ n
+  pub graph : graphIn n numbers bytes ≡ build 0 T (empty n)
+  pub crowd : low ≡ crowdedVertex n T
+
+-- the call was not refused before the run
+pub record Admitted (high : Bool) (n m : ℕ) (T : List Edge) (solution numbers bytes : List ℕ) : Type 0 where
+  pub lent : Lent high n m numbers bytes
+  pub all : m ≡ length T
+  pub valid : Each (Valid n) T
+  pub cells : length solution ≡ n
+
+-- what lies behind the room is as it was
+pub record Past (high : Bool) (n m : ℕ) (numbers bytes numbers′ bytes′ : List ℕ) : Type 0 where
+  pub long : length numbers′ ≡ length numbers
+  pub long-b : length bytes′ ≡ length bytes
+  pub rest : drop (numbersRoom high n m) numbers′ ≡ drop (numbersRoom high n m) numbers
+  pub rest-b : drop (bytesRoom high n m) bytes′ ≡ drop (bytesRoom high n m) bytes
+
+-- the answer and every lent cell are as the definition of the call says
+pub record Leaves (c : PeelCall) (r : Peeling) (solution numbers bytes : List ℕ) : Type 0 where
+  pub answer : r .answer ≡ c .answer
+  pub report : r .report ≡ c .report
+  pub solution-is : solution ≡ c .solution
+  pub numbers-are : numbers ≡ c .numbers
+  pub bytes-are : bytes ≡ c .bytes
+
+-- the run says the same in whatever areas
+unfoldable pub runSays : Bool → ℕ → List Edge → List ℕ → PeelCall
+runSays high n T cells = admitted (numbersRoom high n (length T)) (bytesRoom high n (length T)) n T cells [] []
+
+unfoldable pub runCall : Bool → ℕ → List Edge → List ℕ → List ℕ → List ℕ → PeelCall
+runCall high n T cells numbers bytes = admitted (numbersRoom high n (length T)) (bytesRoom high n (length T)) n T cells numbers bytes

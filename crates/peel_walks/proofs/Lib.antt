@@ -1,0 +1,3 @@
+pub mod CallRules
+pub mod TableLaws
+pub mod PeelLaws

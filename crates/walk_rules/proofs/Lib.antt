@@ -1,0 +1,5 @@
+pub mod Walk
+pub mod Again
+pub mod Lent
+pub mod Loops
+pub mod Shared
