@@ -16,9 +16,10 @@ pub extern "C" fn bench_mark(k: u64) -> u64 {
 
 /// Counts `work` as a phase of this name.
 fn phase(only: &str, name: &str, work: impl FnOnce()) {
+    let wanted = black_box(only == "all" || only == name);
     println!("{name}");
     bench_mark(0);
-    if only == "all" || only == name {
+    if wanted {
         work();
     }
     bench_mark(1);
