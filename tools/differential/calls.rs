@@ -1,10 +1,15 @@
-//! The proved calls of the crate `exports`, lent memory with marks on both sides.
+//! The proved calls of the crates `exports` and `peel_exports`, lent memory with marks on both sides.
 
 unsafe extern "C" {
     fn orohkaril_sum(left: *const u32, left_len: usize, right: *const u32, right_len: usize, left_c: u64, right_c: u64, out: *mut u32, out_len: usize, len: *mut usize, constant: *mut u64, place: *mut usize) -> u32;
     fn orohkaril_check(n: usize, m: usize, starts: *const u32, starts_len: usize, vars: *const u32, vars_len: usize, constants: *const u64, constants_len: usize, solution: *const u64, solution_len: usize, place: *mut usize) -> u32;
     fn orohkaril_sparse(n: usize, m: usize, starts: *const u32, starts_len: usize, vars: *const u32, vars_len: usize, constants: *const u64, constants_len: usize, solution: *mut u64, solution_len: usize, numbers: *mut u32, numbers_len: usize, words: *mut u64, words_len: usize, place: *mut usize) -> u32;
+    fn orohkaril_lazy(n: usize, m: usize, starts: *const u32, starts_len: usize, vars: *const u32, vars_len: usize, constants: *const u64, constants_len: usize, solution: *mut u64, solution_len: usize, numbers: *mut u32, numbers_len: usize, words: *mut u64, words_len: usize, place: *mut usize) -> u32;
     fn orohkaril_dense(n: usize, m: usize, w: usize, rows: *const u64, rows_len: usize, constants: *const u64, constants_len: usize, solution: *mut u64, solution_len: usize, numbers: *mut u32, numbers_len: usize, words: *mut u64, words_len: usize, place: *mut usize) -> u32;
+    // a struct of 40 bytes is handed back through a pointer that is passed first: the convention of x86-64, which the module keeps on every machine
+    fn orohkaril_peel_high(told: *mut Told, n: usize, edges: *const Edge, edges_len: usize, solution: *mut u64, solution_len: usize, numbers: *mut u32, numbers_len: usize, bytes: *mut u8, bytes_len: usize) -> *mut Told;
+    fn orohkaril_peel_low(told: *mut Told, n: usize, edges: *const Edge, edges_len: usize, solution: *mut u64, solution_len: usize, numbers: *mut u32, numbers_len: usize, bytes: *mut u8, bytes_len: usize) -> *mut Told;
+    fn orohkaril_lookup(table: *const u64, table_len: usize, a: u32, b: u32, c: u32, bib: *mut u64, place: *mut usize) -> u32;
 }
 
 /// Number and place of an answer.
@@ -59,6 +64,31 @@ pub struct Rows {
     pub constants: Vec<u64>,
 }
 
+/// An edge as it is lent: 24 bytes, the vertices at 0, 4 and 8, the value at 16.
+#[repr(C)]
+#[derive(Clone, Copy, PartialEq, Debug)]
+pub struct Edge {
+    pub vertices: [u32; 3],
+    pub value: u64,
+}
+
+/// What a peeler tells: number and place, then the report.
+#[repr(C)]
+#[derive(Clone, Copy, Debug)]
+pub struct Told {
+    pub number: u32,
+    pub place: usize,
+    pub peeled: usize,
+    pub edges: usize,
+    pub unpeeled: f64,
+}
+
+impl PartialEq for Told {
+    fn eq(&self, o: &Told) -> bool {
+        (self.number, self.place, self.peeled, self.edges, self.unpeeled.to_bits()) == (o.number, o.place, o.peeled, o.edges, o.unpeeled.to_bits())
+    }
+}
+
 pub struct LentAreas {
     pub solution: Lent<u64>,
     pub numbers: Lent<u32>,
@@ -69,6 +99,14 @@ pub fn sparse(s: &System, a: &mut LentAreas) -> Answer {
     let mut place = usize::MAX;
     let number = unsafe {
         orohkaril_sparse(s.n, s.m, s.starts.as_ptr(), s.starts.len(), s.vars.as_ptr(), s.vars.len(), s.constants.as_ptr(), s.constants.len(), a.solution.at(), a.solution.len(), a.numbers.at(), a.numbers.len(), a.words.at(), a.words.len(), &mut place)
+    };
+    Answer(number, place)
+}
+
+pub fn lazy(s: &System, a: &mut LentAreas) -> Answer {
+    let mut place = usize::MAX;
+    let number = unsafe {
+        orohkaril_lazy(s.n, s.m, s.starts.as_ptr(), s.starts.len(), s.vars.as_ptr(), s.vars.len(), s.constants.as_ptr(), s.constants.len(), a.solution.at(), a.solution.len(), a.numbers.at(), a.numbers.len(), a.words.at(), a.words.len(), &mut place)
     };
     Answer(number, place)
 }
@@ -92,4 +130,24 @@ pub fn sum(left: &[u32], right: &[u32], left_c: u64, right_c: u64, out: &mut Len
     let (mut place, mut len, mut constant) = (usize::MAX, usize::MAX, u64::MAX);
     let number = unsafe { orohkaril_sum(left.as_ptr(), left.len(), right.as_ptr(), right.len(), left_c, right_c, out.at(), out.len(), &mut len, &mut constant, &mut place) };
     (Answer(number, place), len, constant)
+}
+
+pub struct LentPeelAreas {
+    pub solution: Lent<u64>,
+    pub numbers: Lent<u32>,
+    pub bytes: Lent<u8>,
+}
+
+pub fn peel(high: bool, n: usize, edges: &[Edge], a: &mut LentPeelAreas) -> Told {
+    let call = if high { orohkaril_peel_high } else { orohkaril_peel_low };
+    let mut told = Told { number: u32::MAX, place: usize::MAX, peeled: usize::MAX, edges: usize::MAX, unpeeled: f64::NAN };
+    unsafe { call(&mut told, n, edges.as_ptr(), edges.len(), a.solution.at(), a.solution.len(), a.numbers.at(), a.numbers.len(), a.bytes.at(), a.bytes.len()) };
+    told
+}
+
+/// The answer and the bib.
+pub fn lookup(table: &[u64], cells: [u32; 3]) -> (Answer, u64) {
+    let (mut place, mut bib) = (usize::MAX, u64::MAX);
+    let number = unsafe { orohkaril_lookup(table.as_ptr(), table.len(), cells[0], cells[1], cells[2], &mut bib, &mut place) };
+    (Answer(number, place), bib)
 }

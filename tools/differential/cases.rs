@@ -1,6 +1,8 @@
 //! One call with all that it is lent, and the comparison with the Rust.
 use crate::calls::{self, Answer, Lent, LentAreas, Rows, System};
+use crate::graphs::{self, Graph, PeelAreas};
 use crate::rules;
+use crate::shrink::{exact, system};
 use std::panic::catch_unwind;
 
 #[derive(Clone, Debug)]
@@ -16,9 +18,12 @@ pub enum Case {
     Check(System, Vec<u64>),
     Sparse(System, Areas),
     Dense(Rows, Areas),
+    Lazy(System, Areas),
+    Peel(Graph, PeelAreas),
+    Lookup { table: Vec<u64>, cells: [u32; 3] },
 }
 
-pub const ENGINES: [&str; 4] = ["sum", "check", "sparse", "dense"];
+pub const ENGINES: [&str; 8] = ["sum", "check", "sparse", "dense", "lazy", "high", "low", "lookup"];
 
 impl Case {
     pub fn engine(&self) -> usize {
@@ -27,6 +32,9 @@ impl Case {
             Case::Check(..) => 1,
             Case::Sparse(..) => 2,
             Case::Dense(..) => 3,
+            Case::Lazy(..) => 4,
+            Case::Peel(g, _) => if g.high { 5 } else { 6 },
+            Case::Lookup { .. } => 7,
         }
     }
 
@@ -37,8 +45,10 @@ impl Case {
         match self {
             Case::Sum { left, right, out, left_c, right_c } => left.len() + right.len() + out.len() + ones(&[*left_c, *right_c]),
             Case::Check(s, x) => s.starts.len() + s.vars.len() + s.constants.len() + x.len() + ones(x) + ones(&s.constants),
-            Case::Sparse(s, a) => s.starts.len() + s.vars.len() + s.constants.len() + ones(&s.constants) + of(a),
+            Case::Sparse(s, a) | Case::Lazy(s, a) => s.starts.len() + s.vars.len() + s.constants.len() + ones(&s.constants) + of(a),
             Case::Dense(s, a) => s.rows.len() + s.constants.len() + ones(&s.rows) + ones(&s.constants) + of(a),
+            Case::Peel(g, a) => g.size() + a.solution.len() + a.numbers.len() + a.bytes.len(),
+            Case::Lookup { table, cells } => table.len() + ones(table) + cells.iter().map(|&c| c as usize).sum::<usize>(),
         }
     }
 }
@@ -54,14 +64,10 @@ pub fn compare(case: &Case) -> Result<u32, String> {
     match case {
         Case::Sum { left, right, left_c, right_c, out } => compare_sum(left, right, *left_c, *right_c, out),
         Case::Check(s, x) => compare_check(s, x),
-        Case::Sparse(s, a) => {
-            let mut lent = lend(a);
-            let kept = s.clone();
-            let got = calls::sparse(s, &mut lent);
-            same("starts", &s.starts, &kept.starts)?;
-            same("variables", &s.vars, &kept.vars)?;
-            same("constants", &s.constants, &kept.constants)?;
-            settle(got, &lent, expect_sparse(s, a)?)
+        Case::Sparse(s, a) => compare_system(s, a, calls::sparse, rules::sparse_room(s.n.min(1 << 20), s.m.min(1 << 20)), original::sparse),
+        Case::Lazy(s, a) => {
+            let number = compare_system(s, a, calls::lazy, rules::lazy_room(s.n.min(1 << 20), s.m.min(1 << 20), s.vars.len()), original::lazy)?;
+            if number == 0 || number == 6 { sparse_too(s, number) } else { Ok(number) }
         }
         Case::Dense(s, a) => {
             let mut lent = lend(a);
@@ -69,16 +75,56 @@ pub fn compare(case: &Case) -> Result<u32, String> {
             let got = calls::dense(s, &mut lent);
             same("rows", &s.rows, &kept.rows)?;
             same("constants", &s.constants, &kept.constants)?;
-            settle(got, &lent, expect_dense(s, a)?)
+            let number = settle(got, &lent, expect_dense(s, a)?)?;
+            if number == 0 { checked(&system(s.n, &listed(s)), lent.solution.cells())?; }
+            Ok(number)
         }
+        Case::Peel(g, a) => graphs::compare_peel(g, a),
+        Case::Lookup { table, cells } => graphs::compare_lookup(table, *cells),
     }
+}
+
+/// A sparse system by one of its two engines; what solves it is also held to `check`.
+fn compare_system(s: &System, a: &Areas, call: fn(&System, &mut LentAreas) -> Answer, room: (usize, usize), run: fn(usize, &[original::Eq]) -> Option<Vec<u64>>) -> Result<u32, String> {
+    let mut lent = lend(a);
+    let kept = s.clone();
+    let got = call(s, &mut lent);
+    same("starts", &s.starts, &kept.starts)?;
+    same("variables", &s.vars, &kept.vars)?;
+    same("constants", &s.constants, &kept.constants)?;
+    let before = ladder(rules::sparse(s), s.n, a, room);
+    let number = settle(got, &lent, outcome(before, a, room, || run(s.n, &equations(s)))?)?;
+    if number == 0 { checked(s, lent.solution.cells())?; }
+    Ok(number)
+}
+
+/// A solution is what `check` says yes to.
+pub fn checked(s: &System, solution: &[u64]) -> Result<(), String> {
+    match calls::check(s, solution) {
+        Answer(0, 0) => Ok(()),
+        // the rows of a dense system may list more variables than a sparse one may have
+        Answer(1, 0) if s.vars.len() > 65_536 => Ok(()),
+        other => Err(format!("check says {other:?} to the solution")),
+    }
+}
+
+/// The equations of a dense system.
+fn listed(s: &Rows) -> Vec<original::Eq> {
+    let row = |i: usize| (0..s.n).filter(|c| s.rows[i * s.w + c / 64] >> (c % 64) & 1 == 1).map(|c| c as u32).collect();
+    (0..s.m).map(|i| (row(i), s.constants[i])).collect()
+}
+
+/// Sparse elimination solves what lazy elimination solves.
+fn sparse_too(s: &System, number: u32) -> Result<u32, String> {
+    let got = calls::sparse(s, &mut lend(&exact(s.n, rules::sparse_room(s.n, s.m))));
+    if got == Answer(number, 0) { Ok(number) } else { Err(format!("lazy says {number}, sparse {got:?}")) }
 }
 
 fn lend(a: &Areas) -> LentAreas {
     LentAreas { solution: Lent::new(&a.solution), numbers: Lent::new(&a.numbers), words: Lent::new(&a.words) }
 }
 
-fn same<T: PartialEq + std::fmt::Debug>(what: &str, got: &[T], expected: &[T]) -> Result<(), String> {
+pub fn same<T: PartialEq + std::fmt::Debug>(what: &str, got: &[T], expected: &[T]) -> Result<(), String> {
     if got == expected { Ok(()) } else { Err(format!("{what}: here {got:?}, expected {expected:?}")) }
 }
 
@@ -118,23 +164,15 @@ pub fn equations(s: &System) -> Vec<original::Eq> {
     (0..s.m).map(|i| (s.vars[s.starts[i] as usize..s.starts[i + 1] as usize].to_vec(), s.constants[i])).collect()
 }
 
-fn ladder(rules: Result<(), Answer>, n: usize, a: &Areas, room: impl Fn() -> (usize, usize)) -> Result<(), Answer> {
+fn ladder(rules: Result<(), Answer>, n: usize, a: &Areas, room: (usize, usize)) -> Result<(), Answer> {
     rules?;
     rules::solution(n, a.solution.len())?;
-    rules::room((a.numbers.len(), room().0), (a.words.len(), room().1))
-}
-
-fn expect_sparse(s: &System, a: &Areas) -> Result<Expected, String> {
-    let room = || rules::sparse_room(s.n, s.m);
-    let before = ladder(rules::sparse(s), s.n, a, room);
-    let room = if before.is_ok() { room() } else { (0, 0) };
-    outcome(before, a, room, || original::sparse(s.n, &equations(s)))
+    rules::room((a.numbers.len(), room.0), (a.words.len(), room.1))
 }
 
 fn expect_dense(s: &Rows, a: &Areas) -> Result<Expected, String> {
-    let room = || rules::dense_room(s.m, s.w);
+    let room = rules::dense_room(s.m.min(1 << 20), s.w.min(1 << 20));
     let before = ladder(rules::dense(s), s.n, a, room);
-    let room = if before.is_ok() { room() } else { (0, 0) };
     outcome(before, a, room, || {
         let (mut rows, mut constants) = (s.rows[..s.m * s.w].to_vec(), s.constants[..s.m].to_vec());
         original::dense(&mut rows, &mut constants, s.m, s.w, s.n)

@@ -3,32 +3,38 @@
 //!     driver exhaustive LEVEL          all small systems; LEVEL 0, 1 or 2 says how many
 //!     driver random SEED SECONDS       systems of every size around the word's edges
 //!     driver damaged SEED SECONDS      the same with one to three things wrong
+//!     driver graphs exhaustive LEVEL   the same for the peelers and lookup: all small graphs,
+//!     driver graphs random SEED SECONDS    graphs of every size, with vertices on 62 to 66 edges among them,
+//!     driver graphs damaged SEED SECONDS   and with one to three things wrong
 //!     driver limits                    the largest sizes, and one above each
-//!     driver bench ENGINE SIDE N M SEED TIMES     one call of one side, for counting instructions (bench.rs)
+//!     driver bench ENGINE N M SEED PHASE   one input on both sides, for counting instructions (tools/measure)
 //!
 //! Prints how many calls were compared, by engine and by the number given, and each difference's smallest input; ends with 1 if there is one.
+#[path = "../measure/bench.rs"]
 mod bench;
 mod calls;
 mod cases;
 mod generate;
+mod graph_inputs;
+mod graphs;
 mod limits;
 mod rules;
 mod shrink;
 
 use cases::{Case, ENGINES, compare};
-use generate::{Random, all_systems, damaged_cases, dense_case, random_cases, rows_of, sparse_case, subset, tuples};
+use generate::{Random, all_systems, damaged_cases, dense_case, lazy_case, random_cases, rows_of, sparse_case, subset, tuples};
 use std::time::{Duration, Instant};
 
 /// Calls compared, by engine and number given, and the differences.
 pub struct Tally {
-    counts: [[u64; 11]; 4],
-    found: [Option<Case>; 4],
+    counts: [[u64; 11]; ENGINES.len()],
+    found: [Option<Case>; ENGINES.len()],
     differences: u64,
 }
 
 impl Tally {
     fn new() -> Self {
-        Tally { counts: [[0; 11]; 4], found: [const { None }; 4], differences: 0 }
+        Tally { counts: [[0; 11]; ENGINES.len()], found: [const { None }; ENGINES.len()], differences: 0 }
     }
 
     pub fn meet(&mut self, case: Case) {
@@ -45,7 +51,7 @@ impl Tally {
     }
 
     fn print(self) -> bool {
-        for (e, counts) in self.counts.iter().enumerate() {
+        for (e, counts) in self.counts.iter().enumerate().filter(|(_, c)| c.iter().any(|&k| k > 0)) {
             let each: Vec<String> = counts.iter().enumerate().filter(|(_, c)| **c > 0).map(|(k, c)| format!("{k}: {c}")).collect();
             println!("{:7}{:>12} compared   {}", ENGINES[e], counts.iter().sum::<u64>(), each.join(", "));
         }
@@ -67,6 +73,7 @@ fn exhaustive(level: usize, tally: &mut Tally) {
             all_systems(n, m, values, |eqs| {
                 let slack = eqs.len() % 2;
                 tally.meet(sparse_case(n, eqs, slack));
+                tally.meet(lazy_case(n, eqs, slack));
                 tally.meet(dense_case(rows_of(n, 1, eqs, |v| v as usize), slack));
                 // the same columns on both sides of the word's edge
                 tally.meet(dense_case(rows_of(62 + n, 2, eqs, |v| v as usize + 62), slack));
@@ -95,7 +102,7 @@ fn timed(seed: u64, seconds: u64, cases: impl Fn(&mut Random) -> Vec<Case>, tall
         cases(&mut r).into_iter().for_each(|c| tally.meet(c));
         systems += 1;
     }
-    println!("{systems} systems");
+    println!("{systems} inputs");
 }
 
 fn main() {
@@ -103,14 +110,20 @@ fn main() {
     let words: Vec<String> = std::env::args().skip(1).collect();
     let number = |i: usize| words.get(i).and_then(|w| w.parse::<u64>().ok()).unwrap_or(1);
     let mut tally = Tally::new();
-    match words.first().map(String::as_str) {
-        Some("exhaustive") => exhaustive(number(1) as usize, &mut tally),
-        Some("random") => timed(number(1), number(2), random_cases, &mut tally),
-        Some("damaged") => timed(number(1), number(2), damaged_cases, &mut tally),
-        Some("limits") => limits::largest(&mut tally),
-        Some("bench") if words.len() == 7 => return bench::run(&words[1], &words[2], number(3) as usize, number(4) as usize, number(5), number(6) as usize),
+    match words.iter().map(String::as_str).collect::<Vec<_>>()[..] {
+        ["exhaustive", _] => exhaustive(number(1) as usize, &mut tally),
+        ["random", _, _] => timed(number(1), number(2), random_cases, &mut tally),
+        ["damaged", _, _] => timed(number(1), number(2), damaged_cases, &mut tally),
+        ["graphs", "exhaustive", _] => graph_inputs::exhaustive(number(2) as usize, &mut tally),
+        ["graphs", "random", _, _] => timed(number(2), number(3), graph_inputs::random_cases, &mut tally),
+        ["graphs", "damaged", _, _] => timed(number(2), number(3), graph_inputs::damaged_cases, &mut tally),
+        ["limits"] => {
+            limits::largest(&mut tally);
+            graph_inputs::largest(&mut tally);
+        }
+        ["bench", engine, _, _, _, only] => return bench::run(engine, number(2) as usize, number(3) as usize, number(4), only),
         _ => {
-            eprintln!("usage: driver exhaustive LEVEL | random SEED SECONDS | damaged SEED SECONDS | limits | bench ENGINE SIDE N M SEED TIMES");
+            eprintln!("usage: driver [graphs] exhaustive LEVEL | [graphs] random SEED SECONDS | [graphs] damaged SEED SECONDS | limits | bench ENGINE N M SEED PHASE");
             std::process::exit(2);
         }
     }

@@ -21,10 +21,10 @@ impl Random {
     pub fn pick<T: Copy>(&mut self, from: &[T]) -> T {
         from[self.below(from.len())]
     }
-    fn list(&mut self, len: usize) -> Vec<u32> {
+    pub fn list(&mut self, len: usize) -> Vec<u32> {
         (0..len).map(|_| self.word() as u32).collect()
     }
-    fn words(&mut self, len: usize) -> Vec<u64> {
+    pub fn words(&mut self, len: usize) -> Vec<u64> {
         (0..len).map(|_| self.word()).collect()
     }
 }
@@ -57,11 +57,20 @@ pub fn all_systems(n: usize, m: usize, values: usize, mut each: impl FnMut(&[Eq]
 
 // ---- as lent
 
-pub fn sparse_case(n: usize, eqs: &[Eq], slack: usize) -> Case {
-    let mut a = exact(n, rules::sparse_room(n, eqs.len()));
+fn longer(mut a: Areas, slack: usize) -> Areas {
     a.numbers.resize(a.numbers.len() + slack, 9);
     a.words.resize(a.words.len() + slack, 9);
-    Case::Sparse(system(n, eqs), a)
+    a
+}
+
+pub fn sparse_case(n: usize, eqs: &[Eq], slack: usize) -> Case {
+    Case::Sparse(system(n, eqs), longer(exact(n, rules::sparse_room(n, eqs.len())), slack))
+}
+
+pub fn lazy_case(n: usize, eqs: &[Eq], slack: usize) -> Case {
+    let s = system(n, eqs);
+    let a = exact(n, rules::lazy_room(n, s.m, s.vars.len()));
+    Case::Lazy(s, longer(a, slack))
 }
 
 /// Column v of the equations is column place(v) of the rows.
@@ -76,9 +85,7 @@ pub fn rows_of(n: usize, w: usize, eqs: &[Eq], place: impl Fn(u32) -> usize) -> 
 }
 
 pub fn dense_case(mut s: Rows, slack: usize) -> Case {
-    let mut a = exact(s.n, rules::dense_room(s.m, s.w));
-    a.numbers.resize(a.numbers.len() + slack, 9);
-    a.words.resize(a.words.len() + slack, 9);
+    let a = longer(exact(s.n, rules::dense_room(s.m, s.w)), slack);
     s.rows.resize(s.rows.len() + slack, !0);
     s.constants.resize(s.constants.len() + slack, 9);
     Case::Dense(s, a)
@@ -174,6 +181,8 @@ pub fn random_cases(r: &mut Random) -> Vec<Case> {
         let slack = r.below(3);
         all.push(Case::Sum { left: a.0.clone(), right: b.0.clone(), left_c: a.1, right_c: b.1, out: r.list(a.0.len() + b.0.len() + slack) });
     }
+    let a = areas(r, n, rules::lazy_room(n, s.m, s.vars.len()));
+    all.push(Case::Lazy(s.clone(), a));
     let a = areas(r, n, rules::sparse_room(n, s.m));
     all.push(Case::Sparse(s, a));
     let w = n.div_ceil(64) + r.pick(&[0, 0, 0, 1, 2]);
@@ -188,7 +197,7 @@ pub fn random_cases(r: &mut Random) -> Vec<Case> {
 
 // ---- damaged ones
 
-fn resized<T: Clone>(r: &mut Random, list: &mut Vec<T>, with: T) {
+pub fn resized<T: Clone>(r: &mut Random, list: &mut Vec<T>, with: T) {
     let len = match r.below(4) { 0 => 0, 1 => list.len() + 1, 2 => list.len() + r.below(5), _ => list.len().saturating_sub(1) };
     list.resize(len, with);
 }
@@ -253,8 +262,9 @@ pub fn damaged_cases(r: &mut Random) -> Vec<Case> {
                     }
                 }
                 Case::Check(s, x) => if r.below(3) == 0 { resized(r, x, 1) } else { damage_system(r, s) },
-                Case::Sparse(s, a) => if r.below(3) == 0 { damage_areas(r, a) } else { damage_system(r, s) },
+                Case::Sparse(s, a) | Case::Lazy(s, a) => if r.below(3) == 0 { damage_areas(r, a) } else { damage_system(r, s) },
                 Case::Dense(s, a) => if r.below(3) == 0 { damage_areas(r, a) } else { damage_rows(r, s) },
+                Case::Peel(..) | Case::Lookup { .. } => (),
             }
         }
     }

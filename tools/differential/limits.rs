@@ -1,13 +1,13 @@
-//! The largest sizes and one above each; every small input that breaks a rule.
+//! The largest sizes and one above each; every small system that breaks a rule.
 use crate::Tally;
 use crate::calls::{Rows, System};
 use crate::cases::{Areas, Case};
-use crate::generate::{Random, dense_case, rows_of, sparse_case, tuples};
+use crate::generate::{Random, dense_case, lazy_case, rows_of, sparse_case, tuples};
 use crate::rules;
 use crate::shrink::{exact, system};
 
 /// Lengths just below, at and above.
-fn around(k: usize) -> std::ops::Range<usize> {
+pub fn around(k: usize) -> std::ops::Range<usize> {
     k.saturating_sub(1)..k + 2
 }
 
@@ -15,7 +15,7 @@ fn areas(solution: usize, numbers: usize, words: usize) -> Areas {
     Areas { solution: vec![8; solution], numbers: vec![8; numbers], words: vec![8; words] }
 }
 
-/// Every sparse and dense call with small n, m, lists and areas, whether or not it keeps the rules.
+/// Every sparse, lazy and dense call with small n, m, lists and areas, whether or not it keeps the rules.
 pub fn all_small_damaged(level: usize, tally: &mut Tally) {
     let most = [1, 2, 2][level];
     let each_list = |most_len: usize, base: usize| {
@@ -33,6 +33,10 @@ pub fn all_small_damaged(level: usize, tally: &mut Tally) {
                     let room = rules::sparse_room(n, m);
                     for (p, q) in around(room.0).flat_map(|p| around(room.1).map(move |q| (p, q))) {
                         tally.meet(Case::Sparse(s.clone(), areas(solution, p, q)));
+                    }
+                    let room = rules::lazy_room(n, m, v.len());
+                    for (p, q) in around(room.0).flat_map(|p| around(room.1).map(move |q| (p, q))) {
+                        tally.meet(Case::Lazy(s.clone(), areas(solution, p, q)));
                     }
                 }
             }
@@ -59,12 +63,14 @@ pub fn largest(tally: &mut Tally) {
     for n in [16_383, 16_384, 16_385] {
         let eqs: Vec<original::Eq> = (0..4).map(|i| (vec![i, i + 1, n as u32 - 1], r.word())).collect();
         tally.meet(sparse_case(n, &eqs, 1));
+        tally.meet(lazy_case(n, &eqs, 1));
         tally.meet(dense_case(rows_of(n, 256, &eqs, |v| (v as usize).min(16_383)), 1));
         tally.meet(Case::Check(system(n, &eqs), vec![0; n]));
     }
     for m in [16_383, 16_384, 16_385] {
         let eqs: Vec<original::Eq> = (0..m).map(|i| (vec![(i % 3) as u32, 3], 5)).collect();
         tally.meet(sparse_case(4, &eqs, 1));
+        tally.meet(lazy_case(4, &eqs, 1));
         tally.meet(dense_case(rows_of(4, 1, &eqs, |v| v as usize), 1));
         tally.meet(Case::Check(system(4, &eqs), vec![5, 5, 5, 0]));
     }
@@ -77,6 +83,7 @@ pub fn largest(tally: &mut Tally) {
             left -= k;
         }
         tally.meet(sparse_case(6001, &eqs, 1));
+        tally.meet(lazy_case(6001, &eqs, 1));
         tally.meet(Case::Check(system(6001, &eqs), vec![3; 6001]));
         let list: Vec<u32> = (0..t as u32).collect();
         for (left, right) in [(&list[..], &[][..]), (&[], &list), (&list, &list)] {

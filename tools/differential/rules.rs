@@ -1,5 +1,5 @@
-//! The numbers 1 to 5, worked out from the rules on paper and from nothing of the proved code.
-use crate::calls::{Answer, Rows, System};
+//! The numbers 1 to 5 and 7, worked out from the rules on paper and from nothing of the proved code.
+use crate::calls::{Answer, Edge, Rows, System};
 
 const MAX_VARIABLES: usize = 16_384;
 const MAX_EQUATIONS: usize = 16_384;
@@ -55,6 +55,34 @@ pub fn room(numbers: (usize, usize), words: (usize, usize)) -> Result<(), Answer
     if numbers.0 < numbers.1 || words.0 < words.1 { refuse(5, 0) } else { Ok(()) }
 }
 
+fn vertices_kept(n: usize, v: [u32; 3]) -> bool {
+    v.iter().all(|&v| (v as usize) < n) && v[0] != v[1] && v[0] != v[2] && v[1] != v[2]
+}
+
+pub fn edges(n: usize, edges: &[Edge]) -> Result<(), Answer> {
+    if n > MAX_VARIABLES || edges.len() > MAX_EQUATIONS {
+        return refuse(1, 0);
+    }
+    match edges.iter().position(|e| !vertices_kept(n, e.vertices)) {
+        Some(i) => refuse(3, i),
+        None => Ok(()),
+    }
+}
+
+/// The lowest vertex on 64 edges or more.
+pub fn crowded(n: usize, edges: &[Edge]) -> Option<usize> {
+    let mut degrees = vec![0; n];
+    edges.iter().for_each(|e| e.vertices.iter().for_each(|&v| degrees[v as usize] += 1));
+    degrees.iter().position(|&d| d >= 64)
+}
+
+pub fn lookup(table: &[u64], cells: [u32; 3]) -> Result<(), Answer> {
+    if table.len() > MAX_VARIABLES {
+        return refuse(1, 0);
+    }
+    if vertices_kept(table.len(), cells) { Ok(()) } else { refuse(3, 0) }
+}
+
 pub fn sum(left: &[u32], right: &[u32], out: usize) -> Result<(), Answer> {
     if left.len() > MAX_LISTED || right.len() > MAX_LISTED {
         return refuse(1, 0);
@@ -71,6 +99,15 @@ pub fn sum(left: &[u32], right: &[u32], out: usize) -> Result<(), Answer> {
 /// Numbers and words of each engine.
 pub fn sparse_room(n: usize, m: usize) -> (usize, usize) {
     (m * n + n + m, m)
+}
+
+pub fn lazy_room(n: usize, m: usize, t: usize) -> (usize, usize) {
+    (2 * m * n + t + 6 * n + 7 * m + 2, 2 * m)
+}
+
+/// Numbers and bytes of each peeler.
+pub fn peel_room(high: bool, n: usize, m: usize) -> (usize, usize) {
+    if high { (2 * n + m, n + m) } else { (2 * n, n) }
 }
 
 pub fn dense_room(m: usize, w: usize) -> (usize, usize) {

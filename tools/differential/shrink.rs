@@ -1,6 +1,7 @@
 //! Makes a differing case smaller while it differs.
 use crate::calls::System;
 use crate::cases::{Areas, Case, compare, equations};
+use crate::graph_inputs;
 use crate::rules;
 
 /// A case like the given one that still differs, from which nothing can be left out.
@@ -76,14 +77,21 @@ fn simpler(case: &Case) -> Vec<Case> {
             all
         }
         Case::Check(s, x) => simpler_systems(s).into_iter().map(|s| { let x = x[..s.n.min(x.len())].to_vec(); Case::Check(s, x) }).collect(),
-        Case::Sparse(s, _) => {
-            let lent = |s: System| { let a = exact(s.n, rules::sparse_room(s.n, s.m)); Case::Sparse(s, a) };
+        Case::Sparse(s, _) | Case::Lazy(s, _) => {
+            let lazy = matches!(case, Case::Lazy(..));
+            let lent = |s: System| {
+                let room = if lazy { rules::lazy_room(s.n, s.m, s.vars.len()) } else { rules::sparse_room(s.n, s.m) };
+                let a = exact(s.n, room);
+                if lazy { Case::Lazy(s, a) } else { Case::Sparse(s, a) }
+            };
             let mut all: Vec<Case> = simpler_systems(s).into_iter().map(lent).collect();
             if rules::sparse(s).is_ok() {
                 all.push(lent(s.clone()));
             }
             all
         }
+        Case::Peel(g, _) => graph_inputs::simpler(g),
+        Case::Lookup { table, cells } => (0..table.len()).map(|k| { let mut t = table.clone(); t.remove(k); Case::Lookup { table: t, cells: *cells } }).collect(),
         Case::Dense(s, _) => {
             if rules::dense(s).is_err() {
                 return vec![];

@@ -1,0 +1,85 @@
+// The peelers and lookup under plain names, for programs in C or Rust: a slice is a pointer and a length.
+// A lent edge is a C struct of 24 bytes: three 32-bit vertices at 0, 4 and 8, a 64-bit value at 16. The language promises it of `#[repr(C)]`.
+use peel_steps::ends::Peeling;
+use peelers::calls::peel_by_sig_vals_high_mem;
+use peelers::calls::peel_by_sig_vals_low_mem;
+use peelers::reading::lookup;
+use peeling::numbers::Edge;
+use peeling::numbers::Vertex;
+ghost use mathlib.Core.Path.{_≡_};
+ghost use Rattle.answers.specs.Numbers.{numberOf, placeOf};
+ghost use Rattle.peel_rules.specs.Calls.{peelHighCall, peelLowCall, lookupCall};
+ghost use Rattle.peel_exports.specs.Told.{Tells, toldBy};
+
+// A peeler's answer as its number and place, and its report.
+#[repr(C)]
+pub struct PeelingTold {
+    pub number: u32,
+    pub place: usize,
+    pub peeled: usize,
+    pub edges: usize,
+    pub unpeeled: f64,
+}
+
+fn tell(p: Peeling) -> PeelingTold
+    ensures { λ r. ⌜ r ≡ toldBy (p .answer) (p .report) ⌝ }
+{
+    let answer = p.answer;
+    let report = p.report;
+    PeelingTold {
+        number: answer.number(),
+        place: answer.place(),
+        peeled: report.peeled,
+        edges: report.edges,
+        unpeeled: report.unpeeled,
+    }
+}
+
+// `peelers::calls::peel_by_sig_vals_high_mem`.
+#[no_mangle]
+pub extern "C" fn orohkaril_peel_high(
+    n: usize,
+    edges: &[Edge],
+    solution: &mut [u64],
+    numbers: &mut [u32],
+    bytes: &mut [u8],
+) -> PeelingTold
+    ensures { λ r. ⌜ Tells (peelHighCall n (now (edges .entry)) (now (solution .entry)) (now (numbers .entry)) (now (bytes .entry))) r (now (solution .exit)) (now (numbers .exit)) (now (bytes .exit)) ⌝ }
+{
+    tell(peel_by_sig_vals_high_mem(n, edges, solution, numbers, bytes))
+}
+
+// `peelers::calls::peel_by_sig_vals_low_mem`.
+#[no_mangle]
+pub extern "C" fn orohkaril_peel_low(
+    n: usize,
+    edges: &[Edge],
+    solution: &mut [u64],
+    numbers: &mut [u32],
+    bytes: &mut [u8],
+) -> PeelingTold
+    ensures { λ r. ⌜ Tells (peelLowCall n (now (edges .entry)) (now (solution .entry)) (now (numbers .entry)) (now (bytes .entry))) r (now (solution .exit)) (now (numbers .exit)) (now (bytes .exit)) ⌝ }
+{
+    tell(peel_by_sig_vals_low_mem(n, edges, solution, numbers, bytes))
+}
+
+// `peelers::reading::lookup`; bib and place are written through.
+#[no_mangle]
+pub extern "C" fn orohkaril_lookup(
+    table: &[u64],
+    a: u32,
+    b: u32,
+    c: u32,
+    bib: &mut u64,
+    place: &mut usize,
+) -> u32
+    ensures { λ r. ⌜ r ≡ numberOf (lookupCall (now (table .entry)) a b c .answer) ⌝ }
+    ensures { λ _. ⌜ now (bib .exit) ≡ lookupCall (now (table .entry)) a b c .bib ⌝ }
+    ensures { λ _. ⌜ now (place .exit) ≡ placeOf (lookupCall (now (table .entry)) a b c .answer) ⌝ }
+{
+    let found = lookup(table, Vertex(a), Vertex(b), Vertex(c));
+    *bib = found.bib;
+    let answer = found.answer;
+    *place = answer.place();
+    answer.number()
+}

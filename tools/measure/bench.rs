@@ -1,0 +1,104 @@
+//! One input, given to the Rust and to the proved call: the instructions between two calls of `bench_mark` are one phase's.
+//! With the name of a phase that one alone is run, and with `none` none: the difference of two such runs is the phase, too.
+use crate::calls::{self, Edge, Lent, LentAreas, LentPeelAreas};
+use crate::generate::{Random, rows_of};
+use crate::rules;
+use crate::shrink::system;
+use original::Eq;
+use std::hint::black_box;
+
+/// Ends a phase: the counter tells here what was counted since the call before.
+#[unsafe(no_mangle)]
+#[inline(never)]
+pub extern "C" fn bench_mark(k: u64) -> u64 {
+    black_box(k)
+}
+
+/// Counts `work` as a phase of this name.
+fn phase(only: &str, name: &str, work: impl FnOnce()) {
+    let wanted = black_box(only == "all" || only == name);
+    println!("{name}");
+    bench_mark(0);
+    if wanted {
+        work();
+    }
+    bench_mark(1);
+}
+
+/// Random edges whose values are those of planted cells; up to 0.8 of the vertices such that they can be peeled.
+fn planted_edges(n: usize, m: usize, seed: u64) -> Vec<Edge> {
+    let mut r = Random(seed);
+    let planted = r.words(n);
+    loop {
+        let vertices: Vec<[u32; 3]> = (0..m).map(|_| three(&mut r, n)).collect();
+        let edges: Vec<Edge> = vertices.iter().map(|&v| Edge { vertices: v, value: v.iter().fold(0, |c, &u| c ^ planted[u as usize]) }).collect();
+        let values: Vec<u64> = edges.iter().map(|e| e.value).collect();
+        if 10 * m > 8 * n || original::run(original::ready(n, vertices, &values), true, &mut original::Log::default()).is_some() {
+            return edges;
+        }
+    }
+}
+
+fn three(r: &mut Random, n: usize) -> [u32; 3] {
+    loop {
+        let v = [0; 3].map(|_: u32| r.below(n) as u32);
+        if v[0] != v[1] && v[0] != v[2] && v[1] != v[2] {
+            return v;
+        }
+    }
+}
+
+fn lent(solution: usize, room: (usize, usize)) -> LentAreas {
+    LentAreas { solution: Lent::new(&vec![7; solution]), numbers: Lent::new(&vec![7; room.0]), words: Lent::new(&vec![7; room.1]) }
+}
+
+fn zeroing<T, U>(only: &str, numbers: &[T], rest: &[U]) {
+    let zero = |at: *mut u8, len: usize| unsafe { std::ptr::write_bytes(at, 0, black_box(len)) };
+    phase(only, "zeroing", || {
+        zero(numbers.as_ptr() as *mut u8, size_of_val(numbers));
+        zero(rest.as_ptr() as *mut u8, size_of_val(rest));
+    });
+}
+
+/// The phases of a solver: the Rust, the call, the call refused once the rules were tried, and the zeroing of its room.
+fn solver(only: &str, n: usize, room: (usize, usize), rust: impl FnOnce() -> bool, call: impl Fn(&mut LentAreas) -> u32) {
+    let (mut areas, mut refused) = (lent(n, room), lent(n + 1, room));
+    phase(only, "rust", || assert!(black_box(rust())));
+    phase(only, "here", || assert!(black_box(call(&mut areas)) == 0));
+    phase(only, "rules", || assert!(black_box(call(&mut refused)) == 4));
+    zeroing(only, refused.numbers.cells(), refused.words.cells());
+}
+
+fn peeler(only: &str, high: bool, n: usize, edges: &[Edge]) {
+    let room = rules::peel_room(high, n, edges.len());
+    let lent = |cells: usize| LentPeelAreas { solution: Lent::new(&vec![7; cells]), numbers: Lent::new(&vec![7; room.0]), bytes: Lent::new(&vec![7; room.1]) };
+    let (mut areas, mut refused, mut log) = (lent(n), lent(n + 1), original::Log::default());
+    let ready = original::ready(n, edges.iter().map(|e| e.vertices).collect(), &edges.iter().map(|e| e.value).collect::<Vec<u64>>());
+    phase(only, "rust", || assert!(black_box(original::run(ready, !high, &mut log).is_some())));
+    phase(only, "here", || assert!(black_box(calls::peel(high, n, edges, &mut areas).number) == 0));
+    phase(only, "rules", || assert!(black_box(calls::peel(high, n, edges, &mut refused).number) == 4));
+    zeroing(only, refused.numbers.cells(), refused.bytes.cells());
+    let (shard, shards) = (black_box(0usize), black_box(1usize));
+    // the three lines that the Rust makes for its log
+    phase(only, "log", || {
+        drop(black_box(format!("Generating graph for shard {}/{}...", shard + 1, shards)));
+        drop(black_box(format!("Peeling graph for shard {}/{} by signatures (low-mem)...", shard + 1, shards)));
+        drop(black_box(format!("Assigning values for shard {}/{}...", shard + 1, shards)));
+    });
+}
+
+pub fn run(engine: &str, n: usize, m: usize, seed: u64, only: &str) {
+    let edges = planted_edges(n, m, seed);
+    let eqs: Vec<Eq> = edges.iter().map(|e| { let mut v = e.vertices.to_vec(); v.sort(); (v, e.value) }).collect();
+    let (s, w) = (system(n, &eqs), n.div_ceil(64));
+    match engine {
+        "sparse" => { let mut rust = original::make_system(n, &eqs); solver(only, n, rules::sparse_room(n, m), || rust.gaussian_elimination().is_ok(), |a| calls::sparse(&s, a).0) }
+        "lazy" => { let mut rust = original::make_system(n, &eqs); solver(only, n, rules::lazy_room(n, m, 3 * m), || rust.lazy_gaussian_elimination().is_ok(), |a| calls::lazy(&s, a).0) }
+        "dense" => {
+            let rows = rows_of(n, w, &eqs, |v| v as usize);
+            let (mut rust, mut constants) = (rows.rows.clone(), rows.constants.clone());
+            solver(only, n, rules::dense_room(m, w), || original::dense(&mut rust, &mut constants, m, w, n).is_some(), |a| calls::dense(&rows, a).0)
+        }
+        _ => peeler(only, engine == "high", n, &edges),
+    }
+}
