@@ -94,14 +94,14 @@ front-end {d} {d′} {p} {q} {k} {n} {i₀} {i} x y l h =
           ∙ ap (λ (u : ℕ). exchanged p q u d) e;
     }
 
--- eight elements from c on, read into an array
-eight-read : (c : ℕ) (d : List ℕ) → c + 8 ≤ length d → put 0 (take (c + 8 - c) (drop c d)) (replicate 8 0) ≡ stretch c 8 d
+-- w elements from c on, read into an array
+block-read : (w c : ℕ) (d : List ℕ) → c + w ≤ length d → put 0 (take (c + w - c) (drop c d)) (replicate w 0) ≡ stretch c w d
 unfolding stretch
-eight-read c d k =
-    let s : length (stretch c 8 d) ≡ 8 = length-stretch c 8 d k in
-    rw (add-sub-cancel-left c 8) (put-all (take 8 (drop c d)) (replicate 8 0) (s ∙ sym (length-replicate {A = ℕ} 8 0)))
+block-read w c d k =
+    let s : length (stretch c w d) ≡ w = length-stretch c w d k in
+    rw (add-sub-cancel-left c w) (put-all (take w (drop c d)) (replicate w 0) (s ∙ sym (length-replicate {A = ℕ} w 0)))
 
--- eight of each, through two arrays
-pub eight-done : (d a b e f : List ℕ) (p q : ℕ) → p + 8 ≤ q → q + 8 ≤ length d → a ≡ put 0 (take (p + 8 - p) (drop p d)) (replicate 8 0)
-    → b ≡ put 0 (take (q + 8 - q) (drop q d)) (replicate 8 0) → e ≡ put q a d → f ≡ put p b e → f ≡ exchanged p q 8 d
-eight-done d a b e f p q h g ea eb ee ef = rw (ef, ee, ea, eb, eight-read p d (omega arith), eight-read q d g)
+-- w of each, through two arrays
+pub block-done : (w : ℕ) (d a b e f : List ℕ) (p q : ℕ) → p + w ≤ q → q + w ≤ length d → a ≡ put 0 (take (p + w - p) (drop p d)) (replicate w 0)
+    → b ≡ put 0 (take (q + w - q) (drop q d)) (replicate w 0) → e ≡ put q a d → f ≡ put p b e → f ≡ exchanged p q w d
+block-done w d a b e f p q h g ea eb ee ef = rw (ef, ee, ea, eb, block-read w p d (omega arith), block-read w q d g)

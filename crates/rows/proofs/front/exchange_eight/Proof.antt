@@ -1,11 +1,11 @@
 -- Each array takes eight numbers, and is written where the other one was.
 use borrow.Author.Needs.{needs}
-use Rattle.rows.proofs.Fronting.{eight-done}
+use Rattle.rows.proofs.Fronting.{block-done}
 use Rattle.rows.proofs.front.exchange_eight.Statement.{statement}
 use Rattle.rows.proofs.front.exchange_eight.Tie as tie
 
 returns : tie.Need-returns
-returns c = let s = c .before .before .before .before .before .before .before .before .before .before .before .before .before .before .before .before .before .before .before .before .before in eight-done _ _ _ _ _ _ _ (s .pre .0) (s .pre .1) (c .before .before .before .before .before .before .before .before .before .before .before .before .before .before .before .before .copy-numbers .ensures) (c .before .before .before .before .before .before .before .before .before .before .before .copy-numbers2 .ensures) (c .before .before .before .before .before .before .before .copy-numbers3 .ensures) (c .before .before .copy-numbers4 .ensures)
+returns c = let s = c .before .before .before .before .before .before .before .before .before .before .before .before .before .before .before .before .before .before .before .before .before in block-done 8 _ _ _ _ _ _ _ (s .pre .0) (s .pre .1) (c .before .before .before .before .before .before .before .before .before .before .before .before .before .before .before .before .copy-numbers .ensures) (c .before .before .before .before .before .before .before .before .before .before .before .copy-numbers2 .ensures) (c .before .before .before .before .before .before .before .copy-numbers3 .ensures) (c .before .before .copy-numbers4 .ensures)
 
 pub exchange-eight-spec : {M : Type 1} → statement M
 exchange-eight-spec =
