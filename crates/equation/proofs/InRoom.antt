@@ -18,7 +18,7 @@ use Rattle.areas.specs.Stretch.{stretch}
 use Rattle.areas.proofs.Stretch.{length-stretch, getD-stretch, getD-agree}
 use Rattle.equation.specs.Merging.{Merged, Ended}
 use Rattle.equation.specs.AddFits.{AddFits}
-use Rattle.equation.proofs.Turn.{flag-low, merged-begin, turn, left-done, right-done}
+use Rattle.equation.proofs.Turn.{merged-begin, on-less, on-more, on-both, left-done, right-done}
 
 -- the variable at place i of a list that rises from there on
 rising-at : (b n i : ℕ) (vs : List ℕ) → i < length vs → Rising b n (drop i vs) → (b ≤ getD vs i 0) × (getD vs i 0 < n) × Rising (suc (getD vs i 0)) n (drop (i + 1) vs)
@@ -53,17 +53,6 @@ module _ (l r : List ℕ) (n i j d : ℕ) (hi : i < length l) (hj : j < length r
       let b = rising-at d n j r hj (w .right) in
       record { left = rising-from (suc (getD l i 0)) d n (drop (i + 1) l) (omega arith) (a .2); right = rising-from (suc (getD r j 0)) d n (drop (j + 1) r) (omega arith) (b .2) }
 
-  rests-turn : Rests l r n (i + boolByte (leb (getD l i 0) (getD r j 0))) (j + boolByte (leb (getD r j 0) (getD l i 0)))
-      (d + boolByte (not (Bool·beq (leb (getD l i 0) (getD r j 0)) (leb (getD r j 0) (getD l i 0)))))
-  rests-turn = go (tri (getD l i 0) (getD r j 0))
-    where
-      go : Tri (getD l i 0) (getD r j 0)
-          → Rests l r n (i + boolByte (leb (getD l i 0) (getD r j 0))) (j + boolByte (leb (getD r j 0) (getD l i 0)))
-          (d + boolByte (not (Bool·beq (leb (getD l i 0) (getD r j 0)) (leb (getD r j 0) (getD l i 0)))))
-      go (less h) = simp (le-leb (getD l i 0) (getD r j 0) (omega arith), lt-leb (getD r j 0) (getD l i 0) h, add-zero) (rests-less h)
-      go (more h) = simp (le-leb (getD r j 0) (getD l i 0) (omega arith), lt-leb (getD l i 0) (getD r j 0) h, add-zero) (rests-more h)
-      go (same e) = simp (le-leb (getD r j 0) (getD l i 0) (omega arith), le-leb (getD l i 0) (getD r j 0) (omega arith), add-zero) rests-same
-
 -- i numbers of the row at p and j of the row at q are done, and d variables stand in the scratch row
 pub record MergingIn (area₀ : List ℕ) (n p li q lj s : ℕ) (area : List ℕ) (i j d : ℕ) : Type 0 where
   pub fits : AddFits area₀ n p li q lj s
@@ -95,23 +84,49 @@ module _ {area₀ area : List ℕ} {n p li q lj s i j d : ℕ} (m : MergingIn ar
   read-right : getD area (q + j) 0 ≡ getD (stretch q lj area₀) j 0
   read-right = let f = m .fits in getD-agree (q + j) 0 s area area₀ (m .merged .front) (omega arith) ∙ sym (getD-stretch q lj j 0 area₀ hj)
 
-  pub merging-turn : MergingIn area₀ n p li q lj s (set area (s + d) (cond (leb (getD area (p + i) 0) (getD area (q + j) 0)) (getD area (p + i) 0) (getD area (q + j) 0)))
-      (i + boolByte (leb (getD area (p + i) 0) (getD area (q + j) 0)))
-      (j + boolByte (leb (getD area (q + j) 0) (getD area (p + i) 0)))
-      (d + boolByte (not (Bool·beq (leb (getD area (p + i) 0) (getD area (q + j) 0)) (leb (getD area (q + j) 0) (getD area (p + i) 0)))))
-  merging-turn =
-      let f = m .fits in
-      let low = merging-low in
-      let hi′ : i < length (stretch p li area₀) = omega arith in
-      let hj′ : j < length (stretch q lj area₀) = omega arith in
-      rw (read-left, read-right)
+  hi′ : i < length (stretch p li area₀)
+  hi′ = omega (arith, m .left-long)
+
+  hj′ : j < length (stretch q lj area₀)
+  hj′ = omega (arith, m .right-long)
+
+  -- a turn, by the order of the two variables
+  pub merging-less : getD area (p + i) 0 < getD area (q + j) 0 → MergingIn area₀ n p li q lj s (set area (s + d) (getD area (p + i) 0)) (i + 1) j (d + 1)
+  merging-less h =
+      let k : getD (stretch p li area₀) i 0 < getD (stretch q lj area₀) j 0 = omega (arith, read-left, read-right) in
+      rw read-left
       record {
-        fits = f;
+        fits = m .fits;
         left-long = m .left-long;
         right-long = m .right-long;
-        merged = turn (stretch p li area₀) (stretch q lj area₀) area₀ area s n i j d hi′ hj′ low (f .inside) (m .merged);
-        rests = rests-turn (stretch p li area₀) (stretch q lj area₀) n i j d hi′ hj′ (m .rests);
-        in-room = omega (arith, flag-low (not (Bool·beq (leb (getD (stretch p li area₀) i 0) (getD (stretch q lj area₀) j 0)) (leb (getD (stretch q lj area₀) j 0) (getD (stretch p li area₀) i 0)))));
+        merged = on-less (stretch p li area₀) (stretch q lj area₀) area₀ area s n i j d hi′ hj′ merging-low (m .fits .inside) (m .merged) k;
+        rests = rests-less (stretch p li area₀) (stretch q lj area₀) n i j d hi′ hj′ (m .rests) k;
+        in-room = omega (arith, merging-low);
+      }
+
+  pub merging-more : getD area (q + j) 0 < getD area (p + i) 0 → MergingIn area₀ n p li q lj s (set area (s + d) (getD area (q + j) 0)) i (j + 1) (d + 1)
+  merging-more h =
+      let k : getD (stretch q lj area₀) j 0 < getD (stretch p li area₀) i 0 = omega (arith, read-left, read-right) in
+      rw read-right
+      record {
+        fits = m .fits;
+        left-long = m .left-long;
+        right-long = m .right-long;
+        merged = on-more (stretch p li area₀) (stretch q lj area₀) area₀ area s n i j d hi′ hj′ merging-low (m .fits .inside) (m .merged) k;
+        rests = rests-more (stretch p li area₀) (stretch q lj area₀) n i j d hi′ hj′ (m .rests) k;
+        in-room = omega (arith, merging-low);
+      }
+
+  pub merging-same : getD area (q + j) 0 ≤ getD area (p + i) 0 → getD area (p + i) 0 ≤ getD area (q + j) 0 → MergingIn area₀ n p li q lj s area (i + 1) (j + 1) d
+  merging-same h g =
+      let k : getD (stretch p li area₀) i 0 ≡ getD (stretch q lj area₀) j 0 = omega (arith, read-left, read-right) in
+      record {
+        fits = m .fits;
+        left-long = m .left-long;
+        right-long = m .right-long;
+        merged = on-both (stretch p li area₀) (stretch q lj area₀) area₀ area s n i j d hi′ hj′ merging-low (m .fits .inside) (m .merged) k;
+        rests = rests-same (stretch p li area₀) (stretch q lj area₀) n i j d hi′ hj′ (m .rests);
+        in-room = m .in-room;
       }
 
 -- where one row has ended, the rest of the other fits

@@ -66,7 +66,7 @@ module _ (l r before out : List ℕ) (s m i j d : ℕ) (hi : i < length l) (hj :
       rw (stretch-snoc s d (set out (s + d) v) (omega arith), getD-set-same out (s + d) v 0 (omega arith), stretch-set-before s d (s + d) v out (omega arith))
       (append-snoc (stretch s d out) v xs)
 
-  on-less : getD l i 0 < getD r j 0 → Merged l r before (set out (s + d) (getD l i 0)) s m (i + 1) j (d + 1)
+  pub on-less : getD l i 0 < getD r j 0 → Merged l r before (set out (s + d) (getD l i 0)) s m (i + 1) j (d + 1)
   on-less h = record {
     in-left = omega arith;
     in-right = omega arith;
@@ -78,7 +78,7 @@ module _ (l r before out : List ℕ) (s m i j d : ℕ) (hi : i < length l) (hj :
     written = one-more (getD l i 0) (symDiff (drop (i + 1) l) (drop j r)) ∙ rw (← (turn-less l r i j hi hj h)) (w .written);
   }
 
-  on-more : getD r j 0 < getD l i 0 → Merged l r before (set out (s + d) (getD r j 0)) s m i (j + 1) (d + 1)
+  pub on-more : getD r j 0 < getD l i 0 → Merged l r before (set out (s + d) (getD r j 0)) s m i (j + 1) (d + 1)
   on-more h = record {
     in-left = omega arith;
     in-right = omega arith;
@@ -100,6 +100,19 @@ module _ (l r before out : List ℕ) (s m i j d : ℕ) (hi : i < length l) (hj :
     back = written-back v d (omega arith);
     kept = written-kept v;
     written = rw (stretch-set-before s d (s + d) v out (omega arith), ← (turn-same l r i j hi hj h)) (w .written);
+  }
+
+  -- neither is kept, and nothing is written
+  pub on-both : getD l i 0 ≡ getD r j 0 → Merged l r before out s m (i + 1) (j + 1) d
+  on-both h = record {
+    in-left = omega arith;
+    in-right = omega arith;
+    short = omega (arith, w .short);
+    long = w .long;
+    front = w .front;
+    back = w .back;
+    kept = w .kept;
+    written = rw (← (turn-same l r i j hi hj h)) (w .written);
   }
 
   pub turn : Merged l r before (set out (s + d) (cond (leb (getD l i 0) (getD r j 0)) (getD l i 0) (getD r j 0))) s m

@@ -21,12 +21,20 @@ fn merge_in(area: &mut [u32], n: usize, p: usize, li: usize, q: usize, lj: usize
     while i < li && j < lj {
         let l = area[p + i];
         let r = area[q + j];
-        let less = l <= r;
-        let more = l >= r;
-        area[s + d] = if less { l } else { r };
-        i += less as usize;
-        j += more as usize;
-        d += (less != more) as usize;
+        if l < r {
+            area[s + d] = l;
+            i += 1;
+            d += 1;
+            continue;
+        }
+        if r < l {
+            area[s + d] = r;
+            j += 1;
+            d += 1;
+            continue;
+        }
+        i += 1;
+        j += 1;
     }
     Place {
         left: i,

@@ -1,5 +1,6 @@
 pub mod Put
 pub mod Holding
+pub mod Fronting
 pub mod Swapping
 pub mod Adding
 pub mod Loading

@@ -4,9 +4,9 @@ use mathlib.Core.List.{List, [], _∷_}
 use Prim.Native.Nat.{ℕ, _+_, _*_, _≤_, _<_}
 use native.Mathlib.Omega.{arith}
 use lib.ListN.{length, getD, set}
-use Rattle.areas.specs.Stretch.{exchanged}
 use Rattle.areas.proofs.Offsets.{row-before}
 use Rattle.gf2.specs.Equation.{Equation}
+use Rattle.rows.specs.Front.{Exchanged}
 use Rattle.rows.specs.Picture.{Drawn, Longer, rowAt, swapped}
 use Rattle.rows.proofs.Holding.{row-narrow, row-length, row-constant, exchange-rows}
 
@@ -19,14 +19,14 @@ module _ {n m : ℕ} {rows : List Equation} {rest rest′ numbers words : List �
   narrow : k ≤ n
   narrow = longer .least n (omega (arith, row-length d i i-in, row-narrow d i i-in)) (omega (arith, row-length d j l, row-narrow d j l))
 
-  pub swap-fits : (i * n + k ≤ j * n) × (j * n + k ≤ length numbers)
-  swap-fits = (omega (arith, narrow, row-before i j n h), omega (arith, narrow, row-before j m n l, d .numbers-room))
+  pub swap-fits : (k ≤ n) × (i * n + n ≤ j * n) × (j * n + n ≤ length numbers)
+  swap-fits = (narrow, row-before i j n h, omega (arith, row-before j m n l, d .numbers-room))
 
-  pub swap-done : (numbers′ : List ℕ) → numbers′ ≡ exchanged (i * n) (j * n) k numbers
+  pub swap-done : (numbers′ : List ℕ) (r : ℕ) → Exchanged numbers (i * n) (j * n) k n numbers′ r
       → Drawn n m (swapped i j rows) rest rest′ (set (set numbers′ (m * n + n + i) (getD numbers (m * n + n + j) 0)) (m * n + n + j) (getD numbers (m * n + n + i) 0))
       (set (set words i (getD words j 0)) j (getD words i 0))
-  swap-done numbers′ e =
+  swap-done numbers′ r x =
       let a = row-length d i i-in in
       let b = row-length d j l in
-      rw (e, a, b, row-constant d i i-in, row-constant d j l)
-      (exchange-rows d i j k h l (omega (arith, longer .left)) (omega (arith, longer .right)) narrow)
+      rw (x .done, a, b, row-constant d i i-in, row-constant d j l)
+      (exchange-rows d i j r h l (omega (arith, longer .left, x .enough)) (omega (arith, longer .right, x .enough)) (x .within))

@@ -7,6 +7,8 @@ ghost use Rattle.answers.specs.Sizes.{maxVariables, sparseNumbers, sparseWords}
 ghost use Rattle.gf2.specs.Equation.{eqn, Rising};
 ghost use Rattle.rows.specs.Picture.{Longer, Held, Became, rowsOf, rowAt, swapped, added};
 
+mod front;
+
 // The room becomes zeros, which are `m` rows without variables; the remainder is untouched.
 pub fn clear(numbers: &mut [u32], words: &mut [u64], n: usize, m: usize)
     requires { ⌜ (sparseNumbers n m ≤ length (now numbers)) × (sparseWords m ≤ length (now words)) ⌝ }
@@ -57,7 +59,7 @@ pub fn swap_rows(numbers: &mut [u32], words: &mut [u64], n: usize, m: usize, i: 
     let li = numbers[lens + i];
     let lj = numbers[lens + j];
     let k = longer(li, lj);
-    areas::exchange::exchange_numbers(numbers, i * n, j * n, k);
+    front::exchange_front(numbers, i * n, j * n, k, n);
     numbers[lens + i] = lj;
     numbers[lens + j] = li;
     let c = words[i];

@@ -4,6 +4,7 @@ use mathlib.Core.Logic.{_≢_}
 use mathlib.Core.List.{List, [], _∷_, _++_, append-assoc}
 use Prim.Native.Nat.{ℕ, zero, suc, pred, _+_, _-_, _*_, _≤_, _<_}
 use native.Mathlib.Omega.{arith}
+use native.Mathlib.Nat.{mul-zero}
 use native.Mathlib.Numerals.{add-one}
 use lib.ListN.{length, getD, set, take, drop, length-set, length-append, length-drop, take-append-drop}
 use lib.Seq.{getD-set-same, getD-set-other, set-getD, set-set, length-take-le, take-at, drop-at, drop-set-lt}
@@ -21,6 +22,11 @@ use Rattle.sparse.specs.declared.echelon.Reduction.{Reduction}
 use Rattle.sparse.specs.declared.echelon.Reduction.the-variants.{Unsolvable, Reduced}
 use Rattle.sparse.proofs.Cases.{meeting-skip, meeting-clash, meeting-idle, meeting-stay, meeting-swap, meeting-sum, summed-identity, summed-clash, summed-swap, summed-stay}
 use Rattle.sparse.proofs.Loops.{meetLoop, loop-clash, loop-identity, loop-both, loop-over, followed, outer-blank, outer-wrong, outer-loop}
+
+-- a list without elements begins with nothing
+blank : (vs : List ℕ) → length vs ≡ 0 → getD vs 0 0 ≡ 0
+blank [] e = refl
+blank (v ∷ vs) e = absurd (omega arith)
 
 -- rows i and j as they were
 unchanged : (rows : List Equation) (i j : ℕ) → rows ≡ set (set rows i (rowAt rows i)) j (rowAt rows j)
@@ -41,6 +47,10 @@ module _ {n m : ℕ} {rows : List Equation} {rest rest′ numbers words : List �
     -- where its first variable lies
     pub first-in : getD numbers (m * n + n + i) 0 ≢ 0 → i * n < m * n
     first-in f = let g = full f in omega (arith, row-narrow d i h, row-before i m n h)
+
+    -- where the row begins, whether it is empty or not
+    pub row-in : i * n < length numbers
+    row-in = omega (arith, row-before i m n h, d .numbers-room)
 
     -- where row j begins
     pub begin-in : getD numbers (m * n + n + i) 0 ≢ 0 → (j : ℕ) → j < m → j * n < m * n
@@ -131,3 +141,22 @@ module _ {n m : ℕ} {rows : List Equation} {rest rest′ numbers words : List �
           pub meet-sum : {numbers₂ words₂ : List ℕ} {r : Met} → MeetsRows summedWith n m i j numbers₁ words₁ numbers₂ words₂ r → MetBy n m i j rows rest rest′ (meeting (rowAt rows i) (rowAt rows j)) numbers₂ words₂ r
           meet-sum {numbers₂} {words₂} {r} k =
               onward (carried b (λ rows₁ x y. MetBy n m i j rows₁ x y (summedWith (rowAt rows₁ i) (rowAt rows₁ j)) numbers₂ words₂ r) k)
+
+    -- row j begins above row i: it has variables, as an empty row begins with 0
+    pub meet-pass : getD numbers (i * n) 0 < getD numbers (j * n) 0 → MetBy n m i j rows rest rest′ (meeting (rowAt rows i) (rowAt rows j)) numbers words Both
+    meet-pass k = by-j (getD numbers (m * n + n + j) 0) refl
+      where
+        wide : 0 < n
+        wide = by-n n refl
+          where
+            by-n : (x : ℕ) → n ≡ x → 0 < n
+            by-n zero e = absurd (let a : i * n ≡ j * n = rw (e, mul-zero i, mul-zero j) in let b : getD numbers (i * n) 0 ≡ getD numbers (j * n) 0 = ap (λ (x : ℕ). getD numbers x 0) a in omega arith)
+            by-n (suc x) e = omega arith
+
+        by-i : getD numbers (m * n + n + j) 0 ≢ 0 → (x : ℕ) → getD numbers (m * n + n + i) 0 ≡ x → MetBy n m i j rows rest rest′ (meeting (rowAt rows i) (rowAt rows j)) numbers words Both
+        by-i f zero e = meet-idle f e
+        by-i f (suc x) e = meet-stay f (λ z. omega arith) k
+
+        by-j : (x : ℕ) → getD numbers (m * n + n + j) 0 ≡ x → MetBy n m i j rows rest rest′ (meeting (rowAt rows i) (rowAt rows j)) numbers words Both
+        by-j zero e = absurd (omega (arith, row-first d j l wide, blank (rowAt rows j .vars) (empty j l e)))
+        by-j (suc x) e = by-i (λ z. omega arith) (getD numbers (m * n + n + i) 0) refl

@@ -18,7 +18,7 @@ use Rattle.sparse.specs.declared.echelon.Met.the-variants.{Clash, Identi
 use Rattle.sparse.specs.declared.echelon.Reduction.{Reduction}
 use Rattle.sparse.specs.declared.echelon.Reduction.the-variants.{Unsolvable, Reduced}
 use Rattle.sparse.proofs.Loops.{meetLoop, loop-clash, loop-identity, loop-both, loop-over, followed, outer-blank, outer-wrong, outer-loop}
-use Rattle.sparse.proofs.Forward.{empty, full}
+use Rattle.sparse.proofs.Forward.{empty, full, meet-pass}
 
 module _ {n m d : ℕ} {rows₀ : List Equation} {rest rest′ numbers words : List ℕ} where
   -- what a loop that went through to the end has come to
@@ -107,6 +107,16 @@ module _ {n m d i : ℕ} {rows₀ : List Equation} {rest rest′ numbers words :
               d-in = s .d-in;
               future = ap (λ (x : ℕ). meetLoop (d - (j + 1)) i x (set (set (s .rows) i i′) j j′)) (add-one j) ∙ sym (loop-both (d - (j + 1)) i j (s .rows) i′ j′ e) ∙ one-more;
             }
+
+  -- row j begins above row i
+  pub round-pass : j < d → getD numbers (i * n) 0 < getD numbers (j * n) 0 → Rounding n m d i rows₀ rest rest′ numbers words (j + 1)
+  round-pass h k = round-turn h (meet-pass round-held i j (s .i-below) (omega (arith, s .d-in)) k) refl
+
+-- the areas and the first number of row i by other names, as after a branch
+pub round-as : {n m d i x y j u u′ : ℕ} {rows₀ : List Equation} {rest rest′ numbers numbers′ words words′ : List ℕ} → numbers′ ≡ numbers → words′ ≡ words → u′ ≡ u
+    → Rounding n m d i rows₀ rest rest′ numbers words j × (length numbers ≡ x) × (length words ≡ y) × (u ≡ getD numbers (i * n) 0)
+    → Rounding n m d i rows₀ rest rest′ numbers′ words′ j × (length numbers′ ≡ x) × (length words′ ≡ y) × (u′ ≡ getD numbers′ (i * n) 0)
+round-as e f g k = rw (e, f, g) k
 
 -- ---- every row but the last
 

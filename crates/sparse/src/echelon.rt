@@ -93,13 +93,18 @@ pub fn outer_row(
         }
         return Reduction::Reduced;
     }
+    let mut u = numbers[i * n];
     let mut j = i + 1;
     while j < d {
-        match meet_rows(numbers, words, n, m, i, j) {
-            Met::Clash => return Reduction::Unsolvable,
-            Met::Identity => return Reduction::Reduced,
-            Met::Both => j += 1,
+        // Most rows begin above row i; an empty one begins with 0.
+        if numbers[j * n] <= u {
+            match meet_rows(numbers, words, n, m, i, j) {
+                Met::Clash => return Reduction::Unsolvable,
+                Met::Identity => return Reduction::Reduced,
+                Met::Both => u = numbers[i * n],
+            }
         }
+        j += 1;
     }
     Reduction::Reduced
 }

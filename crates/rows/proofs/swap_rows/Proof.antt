@@ -22,9 +22,9 @@ swap-rows-spec =
     (λ c. search needs)  -- mul-lj
     (λ c. search needs)  -- slice-read-lj
     (λ c κs. search needs)  -- longer-requires
-    (λ c. let h = row-before (c .before .before .before .before .before .before .args .i) (c .before .before .before .before .before .before .args .m) (c .before .before .before .before .before .before .args .n) (omega arith) in record { fits = omega arith })  -- mul-exchange-numbers
-    (λ c. let h = row-before (c .before .before .before .before .before .before .args .j) (c .before .before .before .before .before .before .args .m) (c .before .before .before .before .before .before .args .n) (omega arith) in record { fits = omega arith })  -- mul-exchange-numbers-2
-    (λ c κs. swap-fits (c .before .before .before .before .before .before .pre .0) (c .before .before .before .before .before .before .args .i) (c .before .before .before .before .before .before .args .j) _ (c .before .before .before .before .before .before .pre .1) (c .before .before .before .before .before .before .pre .2) (c .before .longer .ensures))  -- exchange-numbers-requires
+    (λ c. let h = row-before (c .before .before .before .before .before .before .args .i) (c .before .before .before .before .before .before .args .m) (c .before .before .before .before .before .before .args .n) (omega arith) in record { fits = omega arith })  -- mul-exchange-front
+    (λ c. let h = row-before (c .before .before .before .before .before .before .args .j) (c .before .before .before .before .before .before .args .m) (c .before .before .before .before .before .before .args .n) (omega arith) in record { fits = omega arith })  -- mul-exchange-front-2
+    (λ c κs. swap-fits (c .before .before .before .before .before .before .pre .0) (c .before .before .before .before .before .before .args .i) (c .before .before .before .before .before .before .args .j) _ (c .before .before .before .before .before .before .pre .1) (c .before .before .before .before .before .before .pre .2) (c .before .longer .ensures))  -- exchange-front-requires
     (λ c. search needs)  -- add-numbers
     (λ c. search needs)  -- mul-numbers
     (λ c. search needs)  -- slice-write-numbers
@@ -41,4 +41,4 @@ swap-rows-spec =
     (λ c. simp length-set (omega arith))  -- slice-write-words-2
     (λ c. search needs)  -- same-length
     (λ c. search needs)  -- same-length-2
-    (λ c. swap-done (c .before .before .before .before .before .before .before .before .before .before .before .pre .0) (c .before .before .before .before .before .before .before .before .before .before .before .args .i) (c .before .before .before .before .before .before .before .before .before .before .before .args .j) _ (c .before .before .before .before .before .before .before .before .before .before .before .pre .1) (c .before .before .before .before .before .before .before .before .before .before .before .pre .2) (c .before .before .before .before .before .before .longer .ensures) _ (c .before .before .before .before .exchange-numbers .ensures)))
+    (λ c. swap-done (c .before .before .before .before .before .before .before .before .before .before .before .pre .0) (c .before .before .before .before .before .before .before .before .before .before .before .args .i) (c .before .before .before .before .before .before .before .before .before .before .before .args .j) _ (c .before .before .before .before .before .before .before .before .before .before .before .pre .1) (c .before .before .before .before .before .before .before .before .before .before .before .pre .2) (c .before .before .before .before .before .before .longer .ensures) _ _ (c .before .before .before .before .exchange-front .ensures)))

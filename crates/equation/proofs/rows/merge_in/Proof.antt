@@ -1,16 +1,9 @@
--- The invariant is `MergingIn`; a turn is `merging-turn`. The measure is what is left of both rows.
+-- The invariant is `MergingIn`, with a turn for each order of the two variables. The measure is what is left of both rows.
 use Prim.Native.Nat.{ℕ, _+_, _-_, _<_}
-use mathlib.Core.Path.{_≡_}
-use mathlib.Core.Logic.{⊎-elim}
-use mathlib.Core.Bool.{cond, not, Bool·beq}
-use mathlib.Core.List.{List}
 use native.Mathlib.Omega.{arith}
-use lib.ListN.{length, getD}
-use lib.Dec.{leb}
 use borrow.Author.Needs.{needs}
 use borrow.Author.Tests.{ltb-true, ltb-false}
-use Rattle.equation.proofs.Turn.{flag-low, flags}
-use Rattle.equation.proofs.InRoom.{MergingIn, merging-begin, merging-low, merging-turn, left-over, right-over}
+use Rattle.equation.proofs.InRoom.{MergingIn, merging-begin, merging-low, merging-less, merging-more, merging-same, left-over, right-over}
 use Rattle.equation.proofs.rows.merge_in.Statement.{statement}
 use Rattle.equation.proofs.rows.merge_in.Tie as tie
 
@@ -20,37 +13,12 @@ Inv-loop area₀ n p li q lj s i₀ j₀ d₀ area i j d = MergingIn area₀ n p
 abbrev μ-loop : tie.MeasureT-loop
 μ-loop area₀ n p li q lj s i₀ j₀ d₀ area i j d = (li - i) + (lj - j)
 
--- the values in a turn: how far the rows are, and the two variables
-abbrev At : tie.Joined2 Inv-loop μ-loop → tie.At-loop Inv-loop μ-loop
-At c = c .before .before .before .before .before
+-- neither row has ended, where a variable of the left one, or of the right one, is written
+low : (c : tie.Then2 Inv-loop μ-loop) → c .before .before .before .before .before .loop .d < c .before .before .before .before .before .before .args .n
+low c = merging-low (c .before .before .before .before .before .loop .inv) (search needs) (omega (arith, ltb-true))
 
-abbrev a : tie.Joined2 Inv-loop μ-loop → ℕ
-a c = getD (At c .loop .area) (At c .before .args .p + At c .loop .i) 0
-
-abbrev b : tie.Joined2 Inv-loop μ-loop → ℕ
-b c = getD (At c .loop .area) (At c .before .args .q + At c .loop .j) 0
-
--- what is written is the left variable where it is at most the right one, and else the right one
-chosen : (c : tie.Joined2 Inv-loop μ-loop) → c .if2 .area ≡ cond (leb (a c) (b c)) (a c) (b c)
-chosen c = ⊎-elim (λ w. rw (w .0 .taken) (w .1)) (λ w. rw (w .0 .left) (w .1)) (c .if2 .came)
-
-low : (c : tie.Joined2 Inv-loop μ-loop) → At c .loop .d < At c .before .args .n
-low c = merging-low (At c .loop .inv) (search needs) (search needs)
-
-add-i : tie.Need-add-i Inv-loop μ-loop
-add-i c = omega (arith, flag-low (leb (a c) (b c)))
-
-add-j : tie.Need-add-j Inv-loop μ-loop
-add-j c = omega (arith, ltb-true, flag-low (leb (b c) (a c)))
-
-add-d : tie.Need-add-d Inv-loop μ-loop
-add-d c = omega (arith, low c, flag-low (not (Bool·beq (leb (a c) (b c)) (leb (b c) (a c)))))
-
-loop-less : tie.Need-loop-less Inv-loop μ-loop
-loop-less c = omega (arith, ltb-true, flag-low (leb (a c) (b c)), flag-low (leb (b c) (a c)), flags (a c) (b c))
-
-loop-again : tie.Need-loop-again Inv-loop μ-loop
-loop-again c = rw (chosen c) (merging-turn (At c .loop .inv) (search needs) (search needs))
+low-2 : (c : tie.Then3 Inv-loop μ-loop) → c .before .before .before .before .before .before .loop .d < c .before .before .before .before .before .before .before .args .n
+low-2 c = merging-low (c .before .before .before .before .before .before .loop .inv) (search needs) (omega (arith, ltb-true))
 
 returns : tie.Need-returns Inv-loop μ-loop
 returns c =
@@ -80,14 +48,21 @@ merge-in-spec =
     (λ c. let h = low c in search needs)  -- add-area
     (λ c. let h = low c in search needs)  -- mul-area
     (λ c. let h = low c in search needs)  -- slice-write-area
-    (λ c. search needs)  -- cast-i
-    add-i
-    (λ c. search needs)  -- cast-j
-    add-j
-    (λ c. search needs)  -- cast-d
-    add-d
-    loop-less
-    loop-again
+    (λ c. search needs)  -- add-i
+    (λ c. let h = low c in search needs)  -- add-d
+    (λ c. search needs)  -- loop-less
+    (λ c. merging-less (c .before .before .before .before .before .loop .inv) (search needs) (omega (arith, ltb-true)) (c .if2 .taken))  -- loop-again
+    (λ c. let h = low-2 c in search needs)  -- add-area-2
+    (λ c. let h = low-2 c in search needs)  -- mul-area-2
+    (λ c. let h = low-2 c in search needs)  -- slice-write-area-2
+    (λ c. omega (arith, ltb-true))  -- add-j
+    (λ c. let h = low-2 c in search needs)  -- add-d-2
+    (λ c. omega (arith, ltb-true))  -- loop-less-2
+    (λ c. merging-more (c .before .before .before .before .before .before .loop .inv) (search needs) (omega (arith, ltb-true)) (c .if3 .taken))  -- loop-again-2
+    (λ c. search needs)  -- add-i-2
+    (λ c. omega (arith, ltb-true))  -- add-j-2
+    (λ c. omega (arith, ltb-true))  -- loop-less-3
+    (λ c. merging-same (c .before .before .before .before .before .before .loop .inv) (search needs) (omega (arith, ltb-true)) (c .before .if2 .left) (c .if3 .left))  -- loop-again-3
     (λ c. search needs)  -- same-length
     returns
     (λ c. search needs)  -- same-length-2
