@@ -1,6 +1,9 @@
 // A case by its kind.
 use libc::STDIN_FILENO;
 use replay_cases::said::Verdict;
+use replay_peels::graphs::graph_case;
+use replay_peels::peels::peel_case;
+use replay_peels::stacks::stack_case;
 use replay_solvers::checks::check_case;
 use replay_solvers::denses::dense_case;
 use replay_solvers::sums::sum_case;
@@ -33,6 +36,11 @@ fn replay_case(kind: usize, bytes: &[u8]) -> Verdict {
         2 => system_case(false, bytes),
         3 => system_case(true, bytes),
         4 => dense_case(bytes),
+        5 => peel_case(true, bytes),
+        6 => peel_case(false, bytes),
+        7 => graph_case(bytes),
+        8 => stack_case(false, bytes),
+        9 => stack_case(true, bytes),
         _ => Verdict::Different,
     }
 }
