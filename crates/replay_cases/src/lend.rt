@@ -1,0 +1,132 @@
+// The ways of lending that each case is called with.
+use crate::cells::left_words;
+use crate::cells::same_words;
+use crate::said::Said;
+use crate::said::refuses;
+ghost use Prim.Native.Nat.{_≤_};
+ghost use Rattle.replay_cases.specs.Lent.{Lendable};
+
+// Cells of the solution, of the numbers, and of the words or bytes.
+pub struct Room {
+    pub solution: usize,
+    pub numbers: usize,
+    pub others: usize,
+}
+
+// Exactly the room; more; one number too few; one word or byte too few; one cell of the solution too many.
+pub const WAYS: usize = 5;
+
+fn one_less(x: usize) -> usize
+    ensures { λ r. ⌜ r ≤ x ⌝ }
+{
+    if x == 0 {
+        return 0;
+    }
+    x - 1
+}
+
+// The lengths to lend.
+pub fn lent_as(way: usize, room: Room) -> Room
+    ensures { λ r. ⌜ Lendable r ⌝ }
+{
+    if 1021 < room.solution {
+        return nothing();
+    }
+    if 65533 < room.numbers {
+        return nothing();
+    }
+    if 1021 < room.others {
+        return nothing();
+    }
+    lengths(way, room)
+}
+
+fn nothing() -> Room
+    ensures { λ r. ⌜ Lendable r ⌝ }
+{
+    Room {
+        solution: 0,
+        numbers: 0,
+        others: 0,
+    }
+}
+
+fn lengths(way: usize, room: Room) -> Room
+    requires { ⌜ (room .solution ≤ 1021) × (room .numbers ≤ 65533) × (room .others ≤ 1021) ⌝ }
+    ensures { λ r. ⌜ Lendable r ⌝ }
+{
+    if way == 1 {
+        return Room {
+            solution: room.solution,
+            numbers: room.numbers + 3,
+            others: room.others + 2,
+        };
+    }
+    if way == 2 {
+        return Room {
+            solution: room.solution,
+            numbers: one_less(room.numbers),
+            others: room.others,
+        };
+    }
+    if way == 3 {
+        return Room {
+            solution: room.solution,
+            numbers: room.numbers,
+            others: one_less(room.others),
+        };
+    }
+    if way == 4 {
+        return Room {
+            solution: room.solution + 1,
+            numbers: room.numbers,
+            others: room.others,
+        };
+    }
+    room
+}
+
+// What must be answered to what is lent so: the rules that come before the areas go before them.
+pub fn wanted(way: usize, room: Room, said: Said) -> Said {
+    if refuses(said.number) {
+        return said;
+    }
+    if way == 2 {
+        if 0 < room.numbers {
+            return refusal(5);
+        }
+    }
+    if way == 3 {
+        if 0 < room.others {
+            return refusal(5);
+        }
+    }
+    if way == 4 {
+        return refusal(4);
+    }
+    said
+}
+
+fn refusal(number: u64) -> Said {
+    Said {
+        number,
+        place: 0,
+        panicked: 0,
+    }
+}
+
+// How many cells of a room must be zero after an answer: all after a run, none after a refusal.
+pub fn zeros_after(number: u64, room: usize) -> usize {
+    if refuses(number) {
+        return 0;
+    }
+    room
+}
+
+// Whether the solution is the expected one after 0, and as it was lent after every other number.
+pub fn solution_left(number: u64, solution: &[u64], expected: &[u64]) -> bool {
+    if number == 0 {
+        return same_words(solution, expected);
+    }
+    left_words(solution, 0)
+}
