@@ -6,6 +6,10 @@ use crate::replies::told;
 use crate::replies::valued;
 use answers::Answer;
 use peeling::numbers::Vertex;
+use replay_cases::lists::load_numbers;
+use replay_cases::lists::load_words;
+use replay_cases::said::Verdict;
+use replay_cases::said::number_at;
 use stacks::stack::Head;
 use stacks::stack::PopStep;
 use stacks::stack::Pushed;
@@ -15,10 +19,6 @@ use stacks::stack::pop_lower_at;
 use stacks::stack::pop_upper_at;
 use stacks::stack::push_lower_at;
 use stacks::stack::push_upper_at;
-use replay_cases::lists::load_numbers;
-use replay_cases::lists::load_words;
-use replay_cases::said::Verdict;
-use replay_cases::said::number_at;
 
 pub struct StackStep {
     pub reply: Reply,
