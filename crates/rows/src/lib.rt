@@ -50,7 +50,7 @@ fn longer(a: u32, b: u32) -> usize
     a as usize
 }
 
-// Rows `i` and `j`, of which `i` comes first, change places; no more numbers are moved than the longer row has.
+// Rows `i` and `j`, of which `i` comes first, change places: as many numbers as the longer row has, and perhaps zeros behind them.
 pub fn swap_rows(numbers: &mut [u32], words: &mut [u64], n: usize, m: usize, i: usize, j: usize)
     requires { ⌜ Held n m (now numbers) (now words) × (i < j) × (j < m) ⌝ }
     ensures { λ _. ⌜ Became n m (now (numbers .entry)) (now (words .entry)) (swapped i j (rowsOf n m (now (numbers .entry)) (now (words .entry)))) (now (numbers .exit)) (now (words .exit)) ⌝ }
