@@ -115,12 +115,14 @@ pub fn draw_equations(
     t
 }
 
-// Another bit in one of the constants.
-pub fn spoil(seed: &mut u64, constants: &mut [u64]) {
-    if constants.len() == 0 {
+// Another bit in one of the m constants.
+pub fn spoil(seed: &mut u64, m: usize, constants: &mut [u64])
+    requires { ⌜ m ≤ length (now constants) ⌝ }
+{
+    if m == 0 {
         return;
     }
-    let i = below(seed, constants.len());
+    let i = below(seed, m);
     let bit = below(seed, 64);
     constants[i] ^= 1 << bit;
 }
