@@ -116,7 +116,7 @@ pub record Next (bytes : List ℕ) (kind w m : ℕ) (rows : List Equation) (p i 
   pub reads : readRows kind w (m - (i + 1)) (drop (p + rowBytes kind w (drop p bytes)) bytes) ≡ some (drop (i + 1) rows)
   pub more : take (i + 1) rows ≡ take i rows ++ (row kind w (drop p bytes) ∷ [])
 
-next-row : (bytes : List ℕ) (kind w m : ℕ) (rows : List Equation) (p i : ℕ) → p ≤ length bytes → i < m → readRows kind w (m - i) (drop p bytes) ≡ some (drop i rows)
+pub next-row : (bytes : List ℕ) (kind w m : ℕ) (rows : List Equation) (p i : ℕ) → p ≤ length bytes → i < m → readRows kind w (m - i) (drop p bytes) ≡ some (drop i rows)
     → Next bytes kind w m rows p i
 next-row bytes kind w m rows p i g h e =
     let s : m - i ≡ suc (m - (i + 1)) = omega arith in

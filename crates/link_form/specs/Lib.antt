@@ -4,3 +4,4 @@ pub mod Lines
 pub mod File
 pub mod Fitting
 pub mod Loading
+pub mod Lent

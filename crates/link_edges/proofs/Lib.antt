@@ -1,0 +1,4 @@
+pub mod Laws
+pub mod Threes
+pub mod EdgeRows
+pub mod Filling

@@ -1,0 +1,4 @@
+pub mod Texts
+pub mod Theorems
+pub mod Examples
+pub mod PeelExample
