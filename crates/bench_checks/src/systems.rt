@@ -1,0 +1,344 @@
+// The three solvers on one system.
+ghost use Prim.Native.Nat.{_≤_, _<_};
+ghost use lib.ListN.{length};
+use crate::cells::left_numbers;
+use crate::cells::left_words;
+use crate::cells::mark_numbers;
+use crate::cells::mark_words;
+use crate::cells::same_words;
+use crate::tally::CHECK;
+use crate::tally::DENSE;
+use crate::tally::LAZY;
+use crate::tally::SPARSE;
+use crate::tally::count;
+use crate::tally::hold;
+use answers::Answer;
+use system::Checked;
+
+fn mark(solution: &mut [u64], numbers: &mut [u32], words: &mut [u64]) {
+    mark_words(solution);
+    mark_numbers(numbers);
+    mark_words(words);
+}
+
+// The cells of a room that an answer leaves zero: a refusal before the run leaves them as lent.
+fn zeroed(answer: Answer, room: usize) -> usize {
+    match answer {
+        Answer::TooLarge => 0,
+        Answer::BadShape => 0,
+        Answer::BadEntry(_) => 0,
+        Answer::WrongSolution => 0,
+        Answer::ShortArea => 0,
+        _ => room,
+    }
+}
+
+// Counts a solver's answer, and holds what it left to it.
+fn left(
+    tally: &mut [u64; 79],
+    row: usize,
+    answer: Answer,
+    solution: &[u64],
+    numbers: &[u32],
+    numbers_room: usize,
+    words: &[u64],
+    words_room: usize,
+)
+    requires { ⌜ row < 7 ⌝ }
+{
+    count(tally, row, answer);
+    hold(tally, left_numbers(numbers, zeroed(answer, numbers_room)));
+    hold(tally, left_words(words, zeroed(answer, words_room)));
+    if answer.number() != 0 {
+        hold(tally, left_words(solution, 0));
+    }
+}
+
+// A solution meets every equation.
+fn checked(
+    tally: &mut [u64; 79],
+    n: usize,
+    m: usize,
+    starts: &[u32],
+    vars: &[u32],
+    constants: &[u64],
+    solution: &[u64],
+) {
+    match system::check(n, m, starts, vars, constants, solution) {
+        Checked::Refused(answer) => {
+            count(tally, CHECK, answer);
+            hold(tally, false);
+        }
+        Checked::Yes => {
+            count(tally, CHECK, Answer::Solved);
+            hold(tally, true);
+        }
+        Checked::No => {
+            count(tally, CHECK, Answer::Unsolvable);
+            hold(tally, false);
+        }
+    }
+}
+
+// A solution is looked at only where there is one.
+fn checked_if_solved(
+    tally: &mut [u64; 79],
+    answer: Answer,
+    n: usize,
+    m: usize,
+    starts: &[u32],
+    vars: &[u32],
+    constants: &[u64],
+    solution: &[u64],
+) {
+    if answer.number() == 0 {
+        checked(tally, n, m, starts, vars, constants, solution);
+    }
+}
+
+fn by_sparse(
+    tally: &mut [u64; 79],
+    n: usize,
+    m: usize,
+    starts: &[u32],
+    vars: &[u32],
+    constants: &[u64],
+    solution: &mut [u64],
+    numbers: &mut [u32],
+    words: &mut [u64],
+) -> Answer
+    requires { ⌜ (n ≤ 16384) × (m ≤ 16384) ⌝ }
+{
+    mark(solution, numbers, words);
+    let answer = sparse::gaussian_elimination(
+        n,
+        m,
+        starts,
+        vars,
+        constants,
+        solution,
+        numbers,
+        words,
+    );
+    let room = answers::sparse_numbers(n, m);
+    left(tally, SPARSE, answer, solution, numbers, room, words, m);
+    checked_if_solved(tally, answer, n, m, starts, vars, constants, solution);
+    answer
+}
+
+// Lazy elimination on marked memory.
+fn solve_lazy(
+    n: usize,
+    m: usize,
+    starts: &[u32],
+    vars: &[u32],
+    constants: &[u64],
+    solution: &mut [u64],
+    numbers: &mut [u32],
+    words: &mut [u64],
+) -> Answer {
+    mark(solution, numbers, words);
+    lazy_units::lazy_gaussian_elimination(n, m, starts, vars, constants, solution, numbers, words)
+}
+
+fn by_lazy(
+    tally: &mut [u64; 79],
+    n: usize,
+    m: usize,
+    starts: &[u32],
+    vars: &[u32],
+    constants: &[u64],
+    solution: &mut [u64],
+    numbers: &mut [u32],
+    words: &mut [u64],
+) -> Answer
+    requires { ⌜ (n ≤ 16384) × (m ≤ 16384) × (length (now vars) ≤ 65536) ⌝ }
+{
+    let answer = solve_lazy(n, m, starts, vars, constants, solution, numbers, words);
+    let room = answers::lazy_numbers(n, m, vars.len());
+    left(
+        tally,
+        LAZY,
+        answer,
+        solution,
+        numbers,
+        room,
+        words,
+        answers::lazy_words(m),
+    );
+    checked_if_solved(tally, answer, n, m, starts, vars, constants, solution);
+    answer
+}
+
+fn by_dense(
+    tally: &mut [u64; 79],
+    n: usize,
+    m: usize,
+    w: usize,
+    starts: &[u32],
+    vars: &[u32],
+    rows: &[u64],
+    constants: &[u64],
+    solution: &mut [u64],
+    numbers: &mut [u32],
+    words: &mut [u64],
+) -> Answer
+    requires { ⌜ (m ≤ 16384) × (w ≤ 256) ⌝ }
+{
+    mark(solution, numbers, words);
+    let answer = dense::dense_gaussian_elimination(
+        n,
+        m,
+        w,
+        rows,
+        constants,
+        solution,
+        numbers,
+        words,
+    );
+    left(
+        tally,
+        DENSE,
+        answer,
+        solution,
+        numbers,
+        m,
+        words,
+        answers::dense_words(m, w),
+    );
+    checked_if_solved(tally, answer, n, m, starts, vars, constants, solution);
+    answer
+}
+
+// What a solver came to on memory of its own, which is longer than its room.
+pub struct Outcome {
+    pub answer: Answer,
+    pub x: [u64; 130],
+}
+
+fn sparse_on(
+    tally: &mut [u64; 79],
+    n: usize,
+    m: usize,
+    starts: &[u32],
+    vars: &[u32],
+    constants: &[u64],
+) -> Outcome
+    requires { ⌜ (n ≤ 130) × (m ≤ 130) ⌝ }
+{
+    let mut x = [0u64; 130];
+    let mut numbers = [0u32; 17400];
+    let mut words = [0u64; 140];
+    let answer = by_sparse(
+        tally,
+        n,
+        m,
+        starts,
+        vars,
+        constants,
+        &mut x[..n],
+        &mut numbers,
+        &mut words,
+    );
+    Outcome { answer, x }
+}
+
+fn lazy_on(
+    tally: &mut [u64; 79],
+    n: usize,
+    m: usize,
+    starts: &[u32],
+    vars: &[u32],
+    constants: &[u64],
+) -> Outcome
+    requires { ⌜ (n ≤ 130) × (m ≤ 130) × (length (now vars) ≤ 1024) ⌝ }
+{
+    let mut x = [0u64; 130];
+    let mut numbers = [0u32; 37000];
+    let mut words = [0u64; 300];
+    let answer = by_lazy(
+        tally,
+        n,
+        m,
+        starts,
+        vars,
+        constants,
+        &mut x[..n],
+        &mut numbers,
+        &mut words,
+    );
+    Outcome { answer, x }
+}
+
+fn dense_on(
+    tally: &mut [u64; 79],
+    n: usize,
+    m: usize,
+    w: usize,
+    starts: &[u32],
+    vars: &[u32],
+    rows: &[u64],
+    constants: &[u64],
+) -> Outcome
+    requires { ⌜ (n ≤ 130) × (m ≤ 130) × (w ≤ 3) ⌝ }
+{
+    let mut x = [0u64; 130];
+    let mut numbers = [0u32; 140];
+    let mut words = [0u64; 600];
+    let answer = by_dense(
+        tally,
+        n,
+        m,
+        w,
+        starts,
+        vars,
+        rows,
+        constants,
+        &mut x[..n],
+        &mut numbers,
+        &mut words,
+    );
+    Outcome { answer, x }
+}
+
+// A planted system is solved.
+fn as_planted(planted: bool, answer: Answer) -> bool {
+    if planted {
+        return answer.number() == 0;
+    }
+    true
+}
+
+// One answer of all three, and one solution of sparse and dense.
+fn agree(tally: &mut [u64; 79], s: Outcome, d: Outcome, l: Outcome) {
+    let by_sparse = s.answer;
+    let by_dense = d.answer;
+    let by_lazy = l.answer;
+    hold(tally, by_sparse.number() == by_dense.number());
+    hold(tally, by_sparse.number() == by_lazy.number());
+    let xs = s.x;
+    let xd = d.x;
+    hold(tally, same_words(&xs, &xd));
+}
+
+// One system by all three: one answer, one solution of sparse and dense, every solution checked, and a planted system solved.
+pub fn compare(
+    tally: &mut [u64; 79],
+    planted: bool,
+    n: usize,
+    m: usize,
+    w: usize,
+    starts: &[u32],
+    vars: &[u32],
+    constants: &[u64],
+    rows: &[u64],
+)
+    requires { ⌜ (n ≤ 130) × (m ≤ 130) × (w ≤ 3) × (length (now vars) ≤ 1024) ⌝ }
+{
+    let s = sparse_on(tally, n, m, starts, vars, constants);
+    let d = dense_on(tally, n, m, w, starts, vars, rows, constants);
+    let l = lazy_on(tally, n, m, starts, vars, constants);
+    agree(tally, s, d, l);
+    let answer = s.answer;
+    hold(tally, as_planted(planted, answer));
+}

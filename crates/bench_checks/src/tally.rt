@@ -1,0 +1,46 @@
+// Answers and comparisons, counted.
+ghost use Prim.Native.Nat.{_<_};
+use answers::Answer;
+use std::num::wrapping_add_u64;
+
+// The rows of a tally: what gave the answer.
+pub const SPARSE: usize = 0;
+
+pub const DENSE: usize = 1;
+
+pub const LAZY: usize = 2;
+
+pub const CHECK: usize = 3;
+
+pub const HIGH: usize = 4;
+
+pub const LOW: usize = 5;
+
+pub const LOOKUP: usize = 6;
+// The columns: the answers' numbers, 0 to 10.
+pub const NUMBERS: usize = 11;
+// What follows the rows: comparisons made, and those that found a difference.
+pub const COMPARED: usize = 77;
+
+pub const DIFFERENT: usize = 78;
+
+fn add_one(tally: &mut [u64; 79], k: usize)
+    requires { ⌜ k < 79 ⌝ }
+{
+    tally[k] = wrapping_add_u64(tally[k], 1);
+}
+
+// Counts an answer in a row.
+pub fn count(tally: &mut [u64; 79], row: usize, answer: Answer)
+    requires { ⌜ row < 7 ⌝ }
+{
+    add_one(tally, row * NUMBERS + answer.number() as usize);
+}
+
+// Counts a comparison, and whether it found what it should.
+pub fn hold(tally: &mut [u64; 79], good: bool) {
+    add_one(tally, COMPARED);
+    if !good {
+        add_one(tally, DIFFERENT);
+    }
+}
