@@ -1,15 +1,10 @@
-use borrow.Author.Needs.{needs}
 use borrow.Author.Tests.{lt-ltb, le-ltb}
 use Rattle.replay_cases.proofs.cells.left_at.Statement.{statement}
 use Rattle.replay_cases.proofs.cells.left_at.Tie as tie
-use Rattle.replay_cases.proofs.cells.left_at.Reads as reads
-use Rattle.replay_cases.proofs.cells.left_at.Lts as lts
 
--- src/cells.rt:28:9
 returns : tie.Need-returns
 returns c = simp (lt-ltb _ _ (c .if1 .taken))
 
--- src/cells.rt:24:1
 returns-2 : tie.Need-returns-2
 returns-2 c = simp (le-ltb _ _ (c .if1 .left))
 
