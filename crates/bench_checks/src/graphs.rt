@@ -1,13 +1,6 @@
 // The two peelers on one table.
 ghost use Prim.Native.Nat.{_≤_, _<_};
 ghost use lib.ListN.{length};
-use crate::cells::left_bytes;
-use crate::cells::left_numbers;
-use crate::cells::left_words;
-use crate::cells::mark_bytes;
-use crate::cells::mark_numbers;
-use crate::cells::mark_words;
-use crate::cells::same_words;
 use crate::cores::crowded;
 use crate::cores::outside_core;
 use crate::tally::HIGH;
@@ -16,6 +9,13 @@ use crate::tally::LOW;
 use crate::tally::count;
 use crate::tally::hold;
 use answers::Answer;
+use lent_cells::cells::left_bytes;
+use lent_cells::cells::left_numbers;
+use lent_cells::cells::left_words;
+use lent_cells::cells::mark_bytes;
+use lent_cells::cells::mark_numbers;
+use lent_cells::cells::mark_words;
+use lent_cells::cells::same_words;
 use peel_steps::ends::Peeling;
 use peelers::programs::peel_high_of;
 use peelers::programs::peel_low_of;

@@ -1,5 +1,4 @@
 // What the runs of the workbench hold the calls to.
-pub mod cells; // lent memory, marked before a call and looked at after it
 pub mod tally; // answers and comparisons, counted
 pub mod systems; // the three solvers on one system
 pub mod cores; // crowds and cores, counted edge by edge

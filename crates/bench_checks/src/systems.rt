@@ -1,11 +1,6 @@
 // The three solvers on one system.
 ghost use Prim.Native.Nat.{_≤_, _<_};
 ghost use lib.ListN.{length};
-use crate::cells::left_numbers;
-use crate::cells::left_words;
-use crate::cells::mark_numbers;
-use crate::cells::mark_words;
-use crate::cells::same_words;
 use crate::tally::CHECK;
 use crate::tally::DENSE;
 use crate::tally::LAZY;
@@ -13,6 +8,11 @@ use crate::tally::SPARSE;
 use crate::tally::count;
 use crate::tally::hold;
 use answers::Answer;
+use lent_cells::cells::left_numbers;
+use lent_cells::cells::left_words;
+use lent_cells::cells::mark_numbers;
+use lent_cells::cells::mark_words;
+use lent_cells::cells::same_words;
 use system::Checked;
 
 fn mark(solution: &mut [u64], numbers: &mut [u32], words: &mut [u64]) {

@@ -1,8 +1,8 @@
 // The ways of lending that each case is called with.
-use crate::cells::left_words;
-use crate::cells::same_words;
 use crate::said::Said;
 use crate::said::refuses;
+use lent_cells::cells::left_words;
+use lent_cells::cells::same_words;
 ghost use Prim.Native.Nat.{_≤_};
 ghost use Rattle.replay_cases.specs.Lent.{Lendable};
 

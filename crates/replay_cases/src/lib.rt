@@ -1,5 +1,4 @@
 // What a replayed case holds, and what a call must have left.
-pub mod cells; // the cells that a call left
 pub mod lend; // the ways of lending
 pub mod lists; // the lists of a case
 pub mod said; // what must be answered

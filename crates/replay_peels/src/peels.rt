@@ -1,16 +1,16 @@
 // The peelers, replayed.
 use answers::Answer;
+use lent_cells::cells::left_bytes;
+use lent_cells::cells::left_numbers;
+use lent_cells::cells::marked_bytes;
+use lent_cells::cells::marked_numbers;
+use lent_cells::cells::marked_words;
 use peel_rules::report::StuckReport;
 use peel_steps::ends::Peeling;
 use peelers::programs::peel_high_of;
 use peelers::programs::peel_low_of;
 use peeling::numbers::Edge;
 use peeling::numbers::Vertex;
-use replay_cases::cells::left_bytes;
-use replay_cases::cells::left_numbers;
-use replay_cases::cells::marked_bytes;
-use replay_cases::cells::marked_numbers;
-use replay_cases::cells::marked_words;
 use replay_cases::lend::Room;
 use replay_cases::lend::WAYS;
 use replay_cases::lend::lent_as;

@@ -1,7 +1,7 @@
 // Dense elimination, replayed.
 use crate::systems::judged;
-use replay_cases::cells::marked_numbers;
-use replay_cases::cells::marked_words;
+use lent_cells::cells::marked_numbers;
+use lent_cells::cells::marked_words;
 use replay_cases::lend::Room;
 use replay_cases::lend::WAYS;
 use replay_cases::lend::lent_as;

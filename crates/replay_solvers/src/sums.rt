@@ -1,8 +1,8 @@
 // The sum of two equations, replayed.
 use equation::Summed;
-use replay_cases::cells::left_numbers;
-use replay_cases::cells::marked_numbers;
-use replay_cases::cells::same_numbers;
+use lent_cells::cells::left_numbers;
+use lent_cells::cells::marked_numbers;
+use lent_cells::cells::same_numbers;
 use replay_cases::lend::Room;
 use replay_cases::lend::lent_as;
 use replay_cases::lend::wanted;

@@ -1,9 +1,9 @@
 // Sparse and lazy elimination, replayed.
 use answers::Answer;
-use replay_cases::cells::left_numbers;
-use replay_cases::cells::left_words;
-use replay_cases::cells::marked_numbers;
-use replay_cases::cells::marked_words;
+use lent_cells::cells::left_numbers;
+use lent_cells::cells::left_words;
+use lent_cells::cells::marked_numbers;
+use lent_cells::cells::marked_words;
 use replay_cases::lend::Room;
 use replay_cases::lend::WAYS;
 use replay_cases::lend::lent_as;
