@@ -167,7 +167,7 @@ fn graph(tally: &mut [u64; 79], seed: &mut u64, n: usize)
     let hubs = draw_hubs(seed, n);
     let m = draw_size(seed, n);
     let table = draw_edges(seed, n, m, hubs);
-    bench_checks::graphs::compare(tally, table, m, n);
+    bench_peels::graphs::compare(tally, table, m, n);
 }
 
 pub fn graphs(tally: &mut [u64; 79], seed: &mut u64) {

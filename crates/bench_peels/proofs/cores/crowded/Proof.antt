@@ -3,11 +3,8 @@ use Prim.Native.Nat.{_+_, _-_, _*_, _≤_, _<_}
 use lib.ListN.{length}
 use borrow.Author.Needs.{needs}
 use native.Mathlib.Omega.{arith}
-use Rattle.bench_checks.proofs.cores.crowded.Statement.{statement}
-use Rattle.bench_checks.proofs.cores.crowded.Tie as tie
-use Rattle.bench_checks.proofs.cores.crowded.Reads as reads
-use Rattle.bench_checks.proofs.cores.crowded.Lts as lts
-use Rattle.bench_checks.proofs.cores.degree.Reads as degree-reads
+use Rattle.bench_peels.proofs.cores.crowded.Statement.{statement}
+use Rattle.bench_peels.proofs.cores.crowded.Tie as tie
 
 abbrev Inv-loop : tie.InvT-loop
 Inv-loop table m n alive v₀ v = v ≤ n

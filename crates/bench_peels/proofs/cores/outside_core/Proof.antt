@@ -3,11 +3,8 @@ use Prim.Native.Nat.{_+_, _-_, _*_, _≤_, _<_}
 use lib.ListN.{length}
 use borrow.Author.Needs.{needs}
 use native.Mathlib.Omega.{arith}
-use Rattle.bench_checks.proofs.cores.outside_core.Statement.{statement}
-use Rattle.bench_checks.proofs.cores.outside_core.Tie as tie
-use Rattle.bench_checks.proofs.cores.outside_core.Reads as reads
-use Rattle.bench_checks.proofs.cores.outside_core.Lts as lts
-use Rattle.bench_checks.proofs.cores.strip.Reads as strip-reads
+use Rattle.bench_peels.proofs.cores.outside_core.Statement.{statement}
+use Rattle.bench_peels.proofs.cores.outside_core.Tie as tie
 
 abbrev Inv-loop : tie.InvT-loop
 Inv-loop table m alive₀ outside₀ round₀ alive outside round = (round ≤ m) × (outside ≤ 256 * round)

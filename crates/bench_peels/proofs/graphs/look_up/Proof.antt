@@ -3,13 +3,8 @@ use Prim.Native.Nat.{_+_, _-_, _*_, _≤_, _<_}
 use lib.ListN.{length}
 use borrow.Author.Needs.{needs}
 use native.Mathlib.Omega.{arith}
-use Rattle.bench_checks.proofs.graphs.look_up.Statement.{statement}
-use Rattle.bench_checks.proofs.graphs.look_up.Tie as tie
-use Rattle.bench_checks.proofs.graphs.look_up.Reads as reads
-use Rattle.bench_checks.proofs.graphs.look_up.Lts as lts
-use Rattle.bench_checks.proofs.tally.count.Reads as count-reads
-use Rattle.bench_checks.proofs.tally.hold.Reads as hold-reads
-use Rattle.peelers.proofs.reading.lookup.Reads as lookup-reads
+use Rattle.bench_peels.proofs.graphs.look_up.Statement.{statement}
+use Rattle.bench_peels.proofs.graphs.look_up.Tie as tie
 
 abbrev Inv-loop : tie.InvT-loop
 Inv-loop tally₀ m cells table i₀ tally i = i ≤ m

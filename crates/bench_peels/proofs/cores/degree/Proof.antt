@@ -3,11 +3,8 @@ use Prim.Native.Nat.{_+_, _-_, _*_, _≤_, _<_}
 use lib.ListN.{length}
 use borrow.Author.Needs.{needs}
 use native.Mathlib.Omega.{arith}
-use Rattle.bench_checks.proofs.cores.degree.Statement.{statement}
-use Rattle.bench_checks.proofs.cores.degree.Tie as tie
-use Rattle.bench_checks.proofs.cores.degree.Reads as reads
-use Rattle.bench_checks.proofs.cores.degree.Lts as lts
-use Rattle.bench_checks.proofs.cores.counts.Reads as counts-reads
+use Rattle.bench_peels.proofs.cores.degree.Statement.{statement}
+use Rattle.bench_peels.proofs.cores.degree.Tie as tie
 
 abbrev Inv-loop : tie.InvT-loop
 Inv-loop m alive v table d₀ i₀ d i = (i ≤ m) × (d ≤ i)

@@ -3,11 +3,8 @@ use Prim.Native.Nat.{_+_, _-_, _*_, _≤_, _<_}
 use lib.ListN.{length}
 use borrow.Author.Needs.{needs}
 use native.Mathlib.Omega.{arith}
-use Rattle.bench_checks.proofs.cores.strip.Statement.{statement}
-use Rattle.bench_checks.proofs.cores.strip.Tie as tie
-use Rattle.bench_checks.proofs.cores.strip.Reads as reads
-use Rattle.bench_checks.proofs.cores.strip.Lts as lts
-use Rattle.bench_checks.proofs.cores.strip_one.Reads as strip-one-reads
+use Rattle.bench_peels.proofs.cores.strip.Statement.{statement}
+use Rattle.bench_peels.proofs.cores.strip.Tie as tie
 
 abbrev Inv-loop : tie.InvT-loop
 Inv-loop table m alive₀ gone₀ i₀ alive gone i = (i ≤ m) × (gone ≤ i)
