@@ -3,7 +3,7 @@ use libc::STDIN_FILENO;
 use replay_cases::said::Verdict;
 use replay_peels::graphs::graph_case;
 use replay_peels::peels::peel_case;
-use replay_peels::stacks::stack_case;
+use replay_peels::pushes::stack_case;
 use replay_solvers::checks::check_case;
 use replay_solvers::denses::dense_case;
 use replay_solvers::sums::sum_case;
