@@ -2,8 +2,8 @@
 ghost use mathlib.Core.Path.{_≡_};
 ghost use mathlib.Core.Bool.{true};
 ghost use Prim.Native.Nat.{ℕ, _<_};
-ghost use lib.ListN.{length, getD};
-ghost use Rattle.lent_cells.specs.Cells.{leftAt, Left};
+ghost use lib.ListN.{length, getD, replicate};
+ghost use Rattle.lent_cells.specs.Cells.{mark, leftAt, Left};
 
 // What every lent cell holds before a call.
 pub const MARK: u64 = 165;
@@ -28,7 +28,9 @@ pub fn marked_bytes() -> [u8; 1024]
 }
 
 // Marks every cell.
-pub fn mark_numbers(numbers: &mut [u32]) {
+pub fn mark_numbers(numbers: &mut [u32])
+    ensures { λ _. ⌜ now (numbers .exit) ≡ replicate (length (now (numbers .entry))) mark ⌝ }
+{
     let mut i = 0;
     while i < numbers.len() {
         numbers[i] = 165;
@@ -36,7 +38,9 @@ pub fn mark_numbers(numbers: &mut [u32]) {
     }
 }
 
-pub fn mark_words(words: &mut [u64]) {
+pub fn mark_words(words: &mut [u64])
+    ensures { λ _. ⌜ now (words .exit) ≡ replicate (length (now (words .entry))) mark ⌝ }
+{
     let mut i = 0;
     while i < words.len() {
         words[i] = MARK;
@@ -44,7 +48,9 @@ pub fn mark_words(words: &mut [u64]) {
     }
 }
 
-pub fn mark_bytes(bytes: &mut [u8]) {
+pub fn mark_bytes(bytes: &mut [u8])
+    ensures { λ _. ⌜ now (bytes .exit) ≡ replicate (length (now (bytes .entry))) mark ⌝ }
+{
     let mut i = 0;
     while i < bytes.len() {
         bytes[i] = 165;

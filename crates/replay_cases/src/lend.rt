@@ -3,8 +3,11 @@ use crate::said::Said;
 use crate::said::refuses;
 use lent_cells::cells::left_words;
 use lent_cells::cells::same_words;
+ghost use mathlib.Core.Path.{_≡_};
+ghost use mathlib.Core.Bool.{true};
 ghost use Prim.Native.Nat.{_≤_};
-ghost use Rattle.replay_cases.specs.Lent.{Lendable};
+ghost use Rattle.replay_cases.specs.Judged.{plainly};
+ghost use Rattle.replay_cases.specs.Lent.{Lendable, lacking, wantedFor, zerosAfter, SolutionLeft};
 
 // Cells of the solution, of the numbers, and of the words or bytes.
 pub struct Room {
@@ -86,20 +89,28 @@ fn lengths(way: usize, room: Room) -> Room
     room
 }
 
+// Whether a work area is lent one cell too few.
+fn lacks(way: usize, room: Room) -> bool
+    ensures { λ r. ⌜ r ≡ lacking way room ⌝ }
+{
+    if way == 2 {
+        return 0 < room.numbers;
+    }
+    if way == 3 {
+        return 0 < room.others;
+    }
+    false
+}
+
 // What must be answered to what is lent so: the rules that come before the areas go before them.
-pub fn wanted(way: usize, room: Room, said: Said) -> Said {
+pub fn wanted(way: usize, room: Room, said: Said) -> Said
+    ensures { λ r. ⌜ r ≡ wantedFor way room said ⌝ }
+{
     if refuses(said.number) {
         return said;
     }
-    if way == 2 {
-        if 0 < room.numbers {
-            return refusal(5);
-        }
-    }
-    if way == 3 {
-        if 0 < room.others {
-            return refusal(5);
-        }
+    if lacks(way, room) {
+        return refusal(5);
     }
     if way == 4 {
         return refusal(4);
@@ -107,7 +118,9 @@ pub fn wanted(way: usize, room: Room, said: Said) -> Said {
     said
 }
 
-fn refusal(number: u64) -> Said {
+fn refusal(number: u64) -> Said
+    ensures { λ r. ⌜ r ≡ plainly number 0 ⌝ }
+{
     Said {
         number,
         place: 0,
@@ -116,15 +129,19 @@ fn refusal(number: u64) -> Said {
 }
 
 // How many cells of a room must be zero after an answer: all after a run, none after a refusal.
-pub fn zeros_after(number: u64, room: usize) -> usize {
+pub fn zeros_after(number: u64, room: usize) -> usize
+    ensures { λ r. ⌜ r ≡ zerosAfter number room ⌝ }
+{
     if refuses(number) {
         return 0;
     }
     room
 }
 
-// Whether the solution is the expected one after 0, and as it was lent after every other number.
-pub fn solution_left(number: u64, solution: &[u64], expected: &[u64]) -> bool {
+// Says yes only where the solution is the expected one after 0, and as it was lent after every other number.
+pub fn solution_left(number: u64, solution: &[u64], expected: &[u64]) -> bool
+    ensures { λ r. ⌜ (r ≡ true → SolutionLeft number (now (solution .entry)) (now (expected .entry))) ⌝ }
+{
     if number == 0 {
         return same_words(solution, expected);
     }

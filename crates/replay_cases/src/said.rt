@@ -1,6 +1,8 @@
 // What a case says must be answered.
-ghost use mathlib.Core.Path.{_≡_};
 use answers::Answer;
+ghost use mathlib.Core.Path.{_≡_};
+ghost use lib.ListN.{getD};
+ghost use Rattle.replay_cases.specs.Judged.{isRefusal, saidBy, agreement, verdictOf};
 
 pub struct Said {
     pub number: u64,
@@ -21,7 +23,9 @@ pub enum Verdict {
 }
 
 // From the list's first three numbers; a shorter list says what no call answers.
-pub fn said_of(list: &[u64]) -> Said {
+pub fn said_of(list: &[u64]) -> Said
+    ensures { λ r. ⌜ r ≡ saidBy (now (list .entry)) ⌝ }
+{
     if list.len() < 3 {
         return Said {
             number: u64::MAX,
@@ -37,7 +41,9 @@ pub fn said_of(list: &[u64]) -> Said {
 }
 
 // The number at `i`, 0 past the end.
-pub fn word_at(list: &[u64], i: usize) -> u64 {
+pub fn word_at(list: &[u64], i: usize) -> u64
+    ensures { λ r. ⌜ r ≡ getD (now (list .entry)) i 0 ⌝ }
+{
     if i < list.len() {
         return list[i];
     }
@@ -45,23 +51,29 @@ pub fn word_at(list: &[u64], i: usize) -> u64 {
 }
 
 // The number at `i`, 0 past the end.
-pub fn number_at(list: &[u32], i: usize) -> u32 {
+pub fn number_at(list: &[u32], i: usize) -> u32
+    ensures { λ r. ⌜ r ≡ getD (now (list .entry)) i 0 ⌝ }
+{
     if i < list.len() {
         return list[i];
     }
     0
 }
 
-pub fn agrees(answer: Answer, said: Said) -> bool {
+pub fn agrees(answer: Answer, said: Said) -> bool
+    ensures { λ r. ⌜ r ≡ agreement answer said ⌝ }
+{
     let number = answer.number() as u64;
     let place = answer.place() as u64;
-    if number != said.number {
-        return false;
+    if number == said.number {
+        return place == said.place;
     }
-    place == said.place
+    false
 }
 
-pub fn came_of(agreed: bool, said: Said) -> Verdict {
+pub fn came_of(agreed: bool, said: Said) -> Verdict
+    ensures { λ r. ⌜ r ≡ verdictOf agreed said ⌝ }
+{
     if !agreed {
         return Verdict::Different;
     }
@@ -75,9 +87,11 @@ pub fn came_of(agreed: bool, said: Said) -> Verdict {
 }
 
 // Whether the number is given before a run.
-pub fn refuses(number: u64) -> bool {
-    if number == 0 {
-        return false;
+pub fn refuses(number: u64) -> bool
+    ensures { λ r. ⌜ r ≡ isRefusal number ⌝ }
+{
+    if 0 < number {
+        return number < 6;
     }
-    number < 6
+    false
 }
