@@ -1,4 +1,4 @@
-# The parts that `differential/build` and `measure/run` share: read by `.`, with $src, $out and $tree set.
+# The parts that `differential/build`, `measure/run` and `replay/make` share: read by `.`, with $src, $out and $tree set.
 #   src   the folder `src` of the Rust text, with utils/mod2_sys.rs, func/peeling.rs and func/vbuilder.rs
 #   out   where all is built
 #   tree  the repository
@@ -57,16 +57,23 @@ rust_text() {
     { cat "$out/vbuilder_head.rs"; sed -n -e 2151,2272p -e 2294,2408p -e 2812,2849p "$src/func/vbuilder.rs"; echo '}'; } >"$out/gen/vbuilder.rs"
 }
 
-# The program `driver` in OUT/NAME, by the compiler RUSTC, with the calls of the files *.KIND.
-driver() { # NAME RUSTC KIND FLAGS..
-    to=$out/$1 rustc=$2 kind=$3
-    shift 3
+# The unchanged Rust as the crate `original` in the folder TO, by the compiler RUSTC.
+original() { # TO RUSTC FLAGS..
+    to=$1 rustc=$2
+    shift 2
     mkdir -p "$to"
     for c in anyhow arbitrary_chunks; do
         "$rustc" --edition 2024 "$@" --crate-type rlib --crate-name $c "$out/$c.rs" -o "$to/lib$c.rlib"
     done
     "$rustc" --edition 2024 "$@" --cfg 'feature="rayon"' -A unexpected_cfgs -A unused --crate-type rlib --crate-name original \
         --extern anyhow="$to/libanyhow.rlib" --extern arbitrary_chunks="$to/libarbitrary_chunks.rlib" "$out/original.rs" -o "$to/liboriginal.rlib"
+}
+
+# The program `driver` in OUT/NAME, by the compiler RUSTC, with the calls of the files *.KIND.
+driver() { # NAME RUSTC KIND FLAGS..
+    to=$out/$1 rustc=$2 kind=$3
+    shift 3
+    original "$to" "$rustc" "$@"
     "$rustc" --edition 2024 "$@" -g -L "$to" --extern original="$to/liboriginal.rlib" "$tree/tools/differential/driver.rs" \
         -C link-arg="$out/exports.$kind" -C link-arg="$out/peel_exports.$kind" -o "$to/driver"
 }

@@ -54,15 +54,7 @@ pub struct System {
     pub constants: Vec<u64>,
 }
 
-/// A dense system as it is lent.
-#[derive(Clone, Debug)]
-pub struct Rows {
-    pub n: usize,
-    pub m: usize,
-    pub w: usize,
-    pub rows: Vec<u64>,
-    pub constants: Vec<u64>,
-}
+pub use crate::shared::Rows;
 
 /// An edge as it is lent: 24 bytes, the vertices at 0, 4 and 8, the value at 16.
 #[repr(C)]

@@ -19,6 +19,8 @@ mod graph_inputs;
 mod graphs;
 mod limits;
 mod rules;
+#[path = "../shared.rs"]
+mod shared;
 mod shrink;
 
 use cases::{Case, ENGINES, compare};

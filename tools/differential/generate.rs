@@ -5,28 +5,10 @@ use crate::rules;
 use crate::shrink::{exact, system};
 use original::Eq;
 
-/// splitmix64
-pub struct Random(pub u64);
+pub use crate::shared::Random;
 
-impl Random {
-    pub fn word(&mut self) -> u64 {
-        self.0 = self.0.wrapping_add(0x9E37_79B9_7F4A_7C15);
-        let z = (self.0 ^ self.0 >> 30).wrapping_mul(0xBF58_476D_1CE4_E5B9);
-        let z = (z ^ z >> 27).wrapping_mul(0x94D0_49BB_1331_11EB);
-        z ^ z >> 31
-    }
-    pub fn below(&mut self, n: usize) -> usize {
-        (self.word() % n.max(1) as u64) as usize
-    }
-    pub fn pick<T: Copy>(&mut self, from: &[T]) -> T {
-        from[self.below(from.len())]
-    }
-    pub fn list(&mut self, len: usize) -> Vec<u32> {
-        (0..len).map(|_| self.word() as u32).collect()
-    }
-    pub fn words(&mut self, len: usize) -> Vec<u64> {
-        (0..len).map(|_| self.word()).collect()
-    }
+pub fn list(r: &mut Random, len: usize) -> Vec<u32> {
+    r.words(len).into_iter().map(|x| x as u32).collect()
 }
 
 // ---- all small ones
@@ -160,7 +142,7 @@ pub fn random_system(r: &mut Random) -> (usize, Vec<Eq>) {
 
 fn areas(r: &mut Random, n: usize, room: (usize, usize)) -> Areas {
     let (a, b) = (r.below(4), r.below(4));
-    Areas { solution: r.words(n), numbers: r.list(room.0 + a), words: r.words(room.1 + b) }
+    Areas { solution: r.words(n), numbers: list(r, room.0 + a), words: r.words(room.1 + b) }
 }
 
 /// The calls that one random system gives.
@@ -179,7 +161,7 @@ pub fn random_cases(r: &mut Random) -> Vec<Case> {
     if eqs.len() > 1 {
         let (a, b) = (&eqs[0], &eqs[r.below(eqs.len())]);
         let slack = r.below(3);
-        all.push(Case::Sum { left: a.0.clone(), right: b.0.clone(), left_c: a.1, right_c: b.1, out: r.list(a.0.len() + b.0.len() + slack) });
+        all.push(Case::Sum { left: a.0.clone(), right: b.0.clone(), left_c: a.1, right_c: b.1, out: list(r, a.0.len() + b.0.len() + slack) });
     }
     let a = areas(r, n, rules::lazy_room(n, s.m, s.vars.len()));
     all.push(Case::Lazy(s.clone(), a));

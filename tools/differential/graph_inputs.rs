@@ -2,7 +2,7 @@
 use crate::Tally;
 use crate::calls::Edge;
 use crate::cases::Case;
-use crate::generate::{Random, resized, tuples};
+use crate::generate::{Random, list, resized, tuples};
 use crate::graphs::{Graph, PeelAreas, exact};
 use crate::limits::around;
 use crate::rules;
@@ -118,7 +118,7 @@ pub fn random_cases(r: &mut Random) -> Vec<Case> {
         let room = rules::peel_room(high, n, edges.len());
         let (p, q) = (r.below(4), r.below(4));
         let bytes = (0..room.1 + q).map(|_| r.word() as u8).collect();
-        all.push(Case::Peel(Graph { high, n, edges: edges.clone() }, PeelAreas { solution: r.words(n), numbers: r.list(room.0 + p), bytes }));
+        all.push(Case::Peel(Graph { high, n, edges: edges.clone() }, PeelAreas { solution: r.words(n), numbers: list(r, room.0 + p), bytes }));
     }
     let most = n + r.below(2);
     let cells = [0; 3].map(|_: u32| r.below(most) as u32);

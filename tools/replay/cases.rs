@@ -6,6 +6,8 @@
 mod calls;
 mod inputs;
 mod rules;
+#[path = "../shared.rs"]
+mod shared;
 mod write;
 
 use inputs::{EDGES, Random};

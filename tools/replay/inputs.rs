@@ -1,26 +1,7 @@
 //! Inputs of every size around the word's edges, some with one thing wrong that the Rust can be given.
 use original::Eq;
 
-/// splitmix64
-pub struct Random(pub u64);
-
-impl Random {
-    pub fn word(&mut self) -> u64 {
-        self.0 = self.0.wrapping_add(0x9E37_79B9_7F4A_7C15);
-        let z = (self.0 ^ self.0 >> 30).wrapping_mul(0xBF58_476D_1CE4_E5B9);
-        let z = (z ^ z >> 27).wrapping_mul(0x94D0_49BB_1331_11EB);
-        z ^ z >> 31
-    }
-    pub fn below(&mut self, n: usize) -> usize {
-        (self.word() % n.max(1) as u64) as usize
-    }
-    pub fn words(&mut self, len: usize) -> Vec<u64> {
-        (0..len).map(|_| self.word()).collect()
-    }
-    pub fn pick<T: Copy>(&mut self, from: &[T]) -> T {
-        from[self.below(from.len())]
-    }
-}
+pub use crate::shared::{Random, Rows};
 
 pub const EDGES: [usize; 10] = [0, 1, 2, 3, 63, 64, 65, 127, 128, 129];
 
@@ -101,15 +82,6 @@ pub fn damage_solution(r: &mut Random, x: &mut Vec<u64>) {
         _ if n > 0 => x[r.below(n)] ^= 1 << r.below(8),
         _ => {}
     }
-}
-
-/// A dense system as it is lent.
-pub struct Rows {
-    pub n: usize,
-    pub m: usize,
-    pub w: usize,
-    pub rows: Vec<u64>,
-    pub constants: Vec<u64>,
 }
 
 /// The equations as rows, perhaps wider than need be; a damaged one has a bit past n, is too short, or has too many columns.
