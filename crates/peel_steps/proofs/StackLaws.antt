@@ -7,8 +7,8 @@ use lib.ListN.{length, set}
 use lib.Dec.{leb, le→leb}
 use borrow.Rule.Slice.PartMut.{midOf, putMid, mid-len, set-mid-at}
 use Rattle.gf2.proofs.Tests.{ltb-yes, T→true}
-use Rattle.stacks.specs.declared.stack.Head.{Head}
-use Rattle.stacks.specs.Stacks.{PushCall, pushed, fastPush, pushUpper}
+use Rattle.stack_steps.specs.declared.Head.{Head}
+use Rattle.stack_steps.specs.Stacks.{PushCall, pushed, fastPush, pushUpper}
 
 -- ---- a stack that is not full
 

@@ -18,9 +18,9 @@ use peeling::incidence::zero_at;
 use peeling::numbers::Edge;
 use peeling::numbers::EdgeNo;
 use peeling::numbers::Vertex;
-use stacks::stack::Head;
-use stacks::stack::fast_push;
-use stacks::stack::push_upper_at;
+use stack_steps::Head;
+use stack_steps::fast_push;
+use stack_steps::push_upper_at;
 
 // Where a peeler stands.
 pub struct Heads {

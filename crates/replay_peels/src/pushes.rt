@@ -10,15 +10,15 @@ use replay_cases::lists::load_numbers;
 use replay_cases::lists::load_words;
 use replay_cases::said::Verdict;
 use replay_cases::said::number_at;
-use stacks::stack::Head;
-use stacks::stack::PopStep;
-use stacks::stack::Pushed;
-use stacks::stack::fast_pop;
-use stacks::stack::fast_push;
-use stacks::stack::pop_lower_at;
-use stacks::stack::pop_upper_at;
-use stacks::stack::push_lower_at;
-use stacks::stack::push_upper_at;
+use stack_steps::Head;
+use stack_steps::PopStep;
+use stack_steps::Pushed;
+use stack_steps::fast_pop;
+use stack_steps::fast_push;
+use stack_steps::pop_lower_at;
+use stack_steps::pop_upper_at;
+use stack_steps::push_lower_at;
+use stack_steps::push_upper_at;
 
 pub struct StackStep {
     pub reply: Reply,

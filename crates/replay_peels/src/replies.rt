@@ -1,7 +1,7 @@
 // What a call on a graph or a stack replies.
 use answers::Answer;
 use replay_cases::said::number_at;
-use stacks::stack::Popped;
+use stack_steps::Popped;
 
 pub struct Reply {
     pub number: u32,

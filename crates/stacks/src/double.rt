@@ -1,14 +1,14 @@
 // Two stacks in one slice, whose head is lent.
 ghost use mathlib.Core.Path.{_≡_};
-ghost use Rattle.stacks.specs.Stacks.{pushLower, pushUpper, popLower, popUpper};
-use crate::stack::Head;
-use crate::stack::Popped;
-use crate::stack::pop_lower_at;
-use crate::stack::pop_upper_at;
-use crate::stack::push_lower_at;
-use crate::stack::push_upper_at;
+ghost use Rattle.stack_steps.specs.Stacks.{pushLower, pushUpper, popLower, popUpper};
 use answers::Answer;
 use peeling::numbers::Vertex;
+use stack_steps::Head;
+use stack_steps::Popped;
+use stack_steps::pop_lower_at;
+use stack_steps::pop_upper_at;
+use stack_steps::push_lower_at;
+use stack_steps::push_upper_at;
 
 // The lower stack grows from the beginning of the slice, the upper stack from its end.
 pub struct DoubleStack {}

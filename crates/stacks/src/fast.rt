@@ -1,12 +1,12 @@
 // One stack whose head is lent.
 ghost use mathlib.Core.Path.{_≡_};
-ghost use Rattle.stacks.specs.Stacks.{fastPush, fastPop};
-use crate::stack::Head;
-use crate::stack::Popped;
-use crate::stack::fast_pop;
-use crate::stack::fast_push;
+ghost use Rattle.stack_steps.specs.Stacks.{fastPush, fastPop};
 use answers::Answer;
 use peeling::numbers::Vertex;
+use stack_steps::Head;
+use stack_steps::Popped;
+use stack_steps::fast_pop;
+use stack_steps::fast_push;
 
 // A stack that starts at the beginning of its slice; of its head only `lower` counts.
 pub struct FastStack {}

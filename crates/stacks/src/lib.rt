@@ -1,4 +1,3 @@
-// Stacks of vertex numbers in lent slices.
+// Stacks of vertex numbers in lent slices, whose heads are lent too.
 pub mod double;
 pub mod fast;
-pub mod stack;

@@ -5,7 +5,7 @@ use Rattle.peel_steps.proofs.visiting.keep_vertex.Statement.{statement}
 use Rattle.peel_steps.proofs.visiting.keep_vertex.Tie as tie
 use Rattle.peel_steps.proofs.visiting.keep_vertex.Reads as reads
 use Rattle.peel_steps.proofs.visiting.keep_vertex.Lts as lts
-use Rattle.stacks.proofs.stack.push_upper_at.Reads as push-upper-at-reads
+use Rattle.stack_steps.proofs.push_upper_at.Reads as push-upper-at-reads
 
 -- src/visiting.rt:131:16
 sub-push-upper-at : tie.Need-sub-push-upper-at

@@ -5,7 +5,7 @@ use Rattle.peel_steps.proofs.visiting.push_if.Statement.{statement}
 use Rattle.peel_steps.proofs.visiting.push_if.Tie as tie
 use Rattle.peel_steps.proofs.visiting.push_if.Reads as reads
 use Rattle.peel_steps.proofs.visiting.push_if.Lts as lts
-use Rattle.stacks.proofs.stack.fast_push.Reads as fast-push-reads
+use Rattle.stack_steps.proofs.fast_push.Reads as fast-push-reads
 
 -- src/visiting.rt:45:31
 mul-fast-push : tie.Need-mul-fast-push

@@ -6,10 +6,10 @@ use lib.ListN.{length, getD, set}
 use lib.Dec.{eqb, leb, ltb}
 use Rattle.answers.specs.Calls.{pick}
 use Rattle.answers.specs.declared.Answer.the-variants.{Solved, OutsideDomain}
-use Rattle.stacks.specs.declared.stack.Head.{Head}
-use Rattle.stacks.specs.declared.stack.Pushed.{Pushed}
-use Rattle.stacks.specs.declared.stack.PopStep.{PopStep}
-use Rattle.stacks.specs.declared.stack.Popped.the-variants.{Got, Empty, Refused}
+use Rattle.stack_steps.specs.declared.Head.{Head}
+use Rattle.stack_steps.specs.declared.Pushed.{Pushed}
+use Rattle.stack_steps.specs.declared.PopStep.{PopStep}
+use Rattle.stack_steps.specs.declared.Popped.the-variants.{Got, Empty, Refused}
 
 pub record PushCall : Type 0 where
   pub result : Pushed

@@ -1,8 +1,8 @@
 -- Each return by the tests that led there.
 use borrow.Author.Tests.{le-leb, lt-leb, eq-eqb, ne-eqb}
 use borrow.Author.Needs.{needs}
-use Rattle.stacks.proofs.stack.fast_pop.Statement.{statement}
-use Rattle.stacks.proofs.stack.fast_pop.Tie as tie
+use Rattle.stack_steps.proofs.fast_pop.Statement.{statement}
+use Rattle.stack_steps.proofs.fast_pop.Tie as tie
 
 returns : tie.Need-returns
 returns c = simp (lt-leb _ _ (c .if1 .taken))

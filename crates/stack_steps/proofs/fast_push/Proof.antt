@@ -2,8 +2,8 @@
 use mathlib.Core.Path.{refl}
 use borrow.Author.Tests.{le-ltb, lt-ltb}
 use borrow.Author.Needs.{needs}
-use Rattle.stacks.proofs.stack.fast_push.Statement.{statement}
-use Rattle.stacks.proofs.stack.fast_push.Tie as tie
+use Rattle.stack_steps.proofs.fast_push.Statement.{statement}
+use Rattle.stack_steps.proofs.fast_push.Tie as tie
 
 returns : tie.Need-returns
 returns c = simp (le-ltb _ _ (c .if1 .taken)) (refl, refl)

@@ -1,6 +1,6 @@
-// Stacks of vertex numbers in a lent slice. A head goes in and comes back by value; `fast` and `double` lend it.
+// Stacks of vertex numbers in a lent slice, one step at a time: a head goes in and comes back by value. `stacks` lends it.
 ghost use mathlib.Core.Path.{_≡_};
-ghost use Rattle.stacks.specs.Stacks.{fastPush, fastPop, pushLower, pushUpper, popLower, popUpper};
+ghost use Rattle.stack_steps.specs.Stacks.{fastPush, fastPop, pushLower, pushUpper, popLower, popUpper};
 use answers::Answer;
 use peeling::numbers::Vertex;
 
