@@ -6,8 +6,9 @@ use Rattle.gf2.specs.Equation.{evalVars, eqn}
 use Rattle.areas.specs.Stretch.{stretch}
 use Rattle.answers.specs.Sizes.{maxVariables, maxEquations}
 use Rattle.answers.specs.declared.Answer.the-variants.{TooLarge, BadShape, BadEntry, WrongSolution}
-use Rattle.system.specs.declared.Checked.the-variants.{Refused, Yes, No}
-use Rattle.system.specs.System.{equationAt, equationsFrom, equations, climbs, startsKept, risesBelow, lowestBad, sizesFit, shapeKept, systemRules, allMet, checkCall}
+use Rattle.system_check.specs.declared.Checked.the-variants.{Refused, Yes, No}
+use Rattle.system.specs.System.{equationAt, equationsFrom, equations, climbs, startsKept, risesBelow, lowestBad, sizesFit, shapeKept, systemRules}
+use Rattle.system_check.specs.CheckCall.{allMet, checkCall}
 
 -- P3: {0,1} = 5, {1,2} = 3, {0,2} = 6
 abbrev starts₃ : List ℕ

@@ -3,8 +3,9 @@ ghost use mathlib.Core.Path.{_≡_};
 ghost use Prim.Native.Nat.{_<_};
 ghost use lib.ListN.{length};
 ghost use Rattle.gf2.specs.Equation.{Each, evalVars};
-ghost use Rattle.system.specs.System.{equations, allMet};
+ghost use Rattle.system.specs.System.{equations};
+ghost use Rattle.system_check.specs.CheckCall.{allMet};
 ghost use Rattle.system.specs.Fits.{Fits};
 
 // The XOR of the values of the listed variables.
 pub fn eval_vars(vars: &[u32], values: &[u64]) -> u64

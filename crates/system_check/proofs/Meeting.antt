@@ -11,10 +11,11 @@ use lib.Dec.{eqb}
 use Rattle.gf2.specs.Equation.{Equation, Each, evalVars, MeetsAll}
 use Rattle.gf2.proofs.Order.{rising-below}
 use Rattle.areas.specs.Stretch.{stretch}
-use Rattle.system.specs.System.{equationAt, equationsFrom, equations, allMet}
+use Rattle.system.specs.System.{equationAt, equationsFrom, equations}
+use Rattle.system_check.specs.CheckCall.{allMet}
 use Rattle.system.specs.Fits.{Fits}
 use Rattle.gf2.proofs.Both.{both}
 use Rattle.system.proofs.Reading.{from-turn, from-end}
 
 -- ---- the test says that the vector meets each equation
 

@@ -14,9 +14,10 @@ use Rattle.answers.specs.declared.Answer.{Answer}
 use Rattle.answers.specs.declared.Answer.the-variants.{WrongSolution}
 use Rattle.answers.specs.declared.Rules.{Rules}
 use Rattle.answers.specs.declared.Rules.the-variants.{Kept, Broken}
-use Rattle.system.specs.declared.Checked.the-variants.{Refused, Yes, No}
-use Rattle.system.specs.System.{equations, systemRules, allMet, checked, checkCall}
-use Rattle.system.proofs.Meeting.{met-meets, meets-met}
+use Rattle.system_check.specs.declared.Checked.the-variants.{Refused, Yes, No}
+use Rattle.system.specs.System.{equations, systemRules}
+use Rattle.system_check.specs.CheckCall.{allMet, checked, checkCall}
+use Rattle.system_check.proofs.Meeting.{met-meets, meets-met}
 
 -- 1 to 3 before all else
 pub check-refused : (n m : ℕ) (starts vars constants solution : List ℕ) (answer : Answer) → systemRules n m starts vars constants ≡ Broken answer → checkCall n m starts vars constants solution ≡ Refused answer

@@ -1,11 +1,11 @@
 -- The walk keeps `Evaluating`, which bounds each index.
 use Prim.Native.Nat.{_-_}
 use lib.ListN.{length}
-use Rattle.system.proofs.Evaluating.{Evaluating, evaluating-begin, evaluating-low, evaluating-turn, evaluating-end}
+use Rattle.system_check.proofs.Evaluating.{Evaluating, evaluating-begin, evaluating-low, evaluating-turn, evaluating-end}
 use borrow.Author.Needs.{needs}
 use native.Mathlib.Omega.{arith}
-use Rattle.system.proofs.evaluation.eval_vars.Statement.{statement}
-use Rattle.system.proofs.evaluation.eval_vars.Tie as tie
+use Rattle.system_check.proofs.evaluation.eval_vars.Statement.{statement}
+use Rattle.system_check.proofs.evaluation.eval_vars.Tie as tie
 
 abbrev Inv-loop : tie.InvT-loop
 Inv-loop vars values sum₀ i₀ sum i = Evaluating vars values sum i

@@ -3,9 +3,9 @@ use mathlib.Core.Path.{sym, _∙_}
 use Prim.Native.Nat.{_+_, _-_}
 use native.Mathlib.Omega.{arith}
 use borrow.Author.Needs.{needs}
-use Rattle.system.proofs.Meeting.{Meeting, meeting-begin, meeting-read, meeting-low, meeting-turn, meeting-stop, meeting-end}
-use Rattle.system.proofs.evaluation.all_met.Statement.{statement}
-use Rattle.system.proofs.evaluation.all_met.Tie as tie
+use Rattle.system_check.proofs.Meeting.{Meeting, meeting-begin, meeting-read, meeting-low, meeting-turn, meeting-stop, meeting-end}
+use Rattle.system_check.proofs.evaluation.all_met.Statement.{statement}
+use Rattle.system_check.proofs.evaluation.all_met.Tie as tie
 
 abbrev Inv-loop : tie.InvT-loop
 Inv-loop m starts vars constants solution i₀ i = Meeting m starts vars constants solution i

@@ -2,11 +2,11 @@
 use mathlib.Core.Path.{sym, _∙_}
 use borrow.Author.Needs.{needs}
 use borrow.Author.Tests.{eq-eqb, ne-eqb}
-use Rattle.system.specs.System.{checkCall}
+use Rattle.system_check.specs.CheckCall.{checkCall}
 use Rattle.system.proofs.Soundness.{kept-sound}
-use Rattle.system.proofs.Meeting.{fits-solution}
-use Rattle.system.proofs.check.Statement.{statement}
-use Rattle.system.proofs.check.Tie as tie
+use Rattle.system_check.proofs.Meeting.{fits-solution}
+use Rattle.system_check.proofs.check.Statement.{statement}
+use Rattle.system_check.proofs.check.Tie as tie
 
 returns : tie.Need-returns
 unfolding checkCall
