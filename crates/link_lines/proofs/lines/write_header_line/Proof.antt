@@ -1,13 +1,13 @@
 use native.Mathlib.Omega.{arith}
-use Rattle.link_form.specs.Lines.{space, newline, markText}
-use Rattle.link_form.proofs.Lining.{told-first, ended-short, ended-more, header-told}
+use Rattle.link_lines.specs.Lines.{space, newline, markText}
+use Rattle.link_lines.proofs.Lining.{told-first, ended-short, ended-more, header-told}
 use borrow.Author.Needs.{needs}
-use Rattle.link_form.proofs.lines.write_header_line.Statement.{statement}
-use Rattle.link_form.proofs.lines.write_header_line.Tie as tie
-use Rattle.link_form.proofs.lines.write_header_line.Reads as reads
-use Rattle.link_form.proofs.lines.write_header_line.Lts as lts
-use Rattle.link_form.proofs.lines.write_ended.Reads as write-ended-reads
-use Rattle.link_form.proofs.lines.write_mark.Reads as write-mark-reads
+use Rattle.link_lines.proofs.lines.write_header_line.Statement.{statement}
+use Rattle.link_lines.proofs.lines.write_header_line.Tie as tie
+use Rattle.link_lines.proofs.lines.write_header_line.Reads as reads
+use Rattle.link_lines.proofs.lines.write_header_line.Lts as lts
+use Rattle.link_lines.proofs.lines.write_ended.Reads as write-ended-reads
+use Rattle.link_lines.proofs.lines.write_mark.Reads as write-mark-reads
 
 -- src/lines.rt:41:9
 write-mark-requires : tie.Need-write-mark-requires

@@ -10,8 +10,8 @@ use native.Mathlib.Omega.{arith}
 use lib.ListN.{length, getD}
 use borrow.Author.Tests.{lt-ltb, le-ltb}
 use Rattle.gf2.specs.Equation.{Each}
-use Rattle.link_form.specs.Decimal.{mostDigits, digitsBefore, decimal, said}
-use Rattle.link_form.proofs.Digits.{ten, before-last, before-more}
+use Rattle.link_lines.specs.Decimal.{mostDigits, digitsBefore, decimal, said}
+use Rattle.link_lines.proofs.Digits.{ten, before-last, before-more}
 
 -- a property of all that is laid down: of the last step, and kept by each earlier one
 module _ (P : ℕ → List ℕ → List ℕ → Type 0)

@@ -3,7 +3,7 @@ ghost use mathlib.Core.Path.{_≡_};
 ghost use Prim.Native.Nat.{_+_, _≤_};
 ghost use lib.ListN.{length, drop};
 ghost use Rattle.areas.specs.Stretch.{put};
-ghost use Rattle.link_form.specs.Decimal.{decimal, mostDigits, Laid};
+ghost use Rattle.link_lines.specs.Decimal.{decimal, mostDigits, Laid};
 
 // No 64-bit number has more digits.
 pub const MOST_DIGITS: usize = 20;

@@ -1,7 +1,7 @@
 -- The lines that tell an answer: numbers in decimal digits, a space between two, a newline at the end.
 use mathlib.Core.List.{List, [], _∷_, _++_}
 use Prim.Native.Nat.{ℕ, _+_, _*_}
-use Rattle.link_form.specs.Decimal.{mostDigits, decimal}
+use Rattle.link_lines.specs.Decimal.{mostDigits, decimal}
 
 abbrev pub space : ℕ
 space = 32

@@ -5,13 +5,13 @@ use mathlib.Core.List.{List}
 use Prim.Native.Nat.{ℕ, _+_}
 use denote.Ref.{now}
 use Rattle.areas.specs.Stretch.{put}
-use Rattle.link_form.proofs.Digits.{laid-length, laid-part}
-use Rattle.link_form.proofs.decimal.write_decimal.Statement.{statement}
-use Rattle.link_form.proofs.decimal.write_decimal.Tie as tie
-use Rattle.link_form.proofs.decimal.write_decimal.Reads as reads
-use Rattle.link_form.proofs.decimal.write_decimal.Lts as lts
+use Rattle.link_lines.proofs.Digits.{laid-length, laid-part}
+use Rattle.link_lines.proofs.decimal.write_decimal.Statement.{statement}
+use Rattle.link_lines.proofs.decimal.write_decimal.Tie as tie
+use Rattle.link_lines.proofs.decimal.write_decimal.Reads as reads
+use Rattle.link_lines.proofs.decimal.write_decimal.Lts as lts
 use Rattle.areas.proofs.copy.copy_bytes.Reads as copy-bytes-reads
-use Rattle.link_form.proofs.decimal.lay_digits.Reads as lay-digits-reads
+use Rattle.link_lines.proofs.decimal.lay_digits.Reads as lay-digits-reads
 
 -- src/decimal.rt:34:24
 slice-aggregate-lay-digits : tie.Need-slice-aggregate-lay-digits

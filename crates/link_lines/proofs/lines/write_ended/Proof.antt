@@ -1,12 +1,12 @@
 use native.Mathlib.Omega.{arith}
-use Rattle.link_form.proofs.Said.{few-digits}
-use Rattle.link_form.proofs.Lining.{ended-written}
+use Rattle.link_lines.proofs.Said.{few-digits}
+use Rattle.link_lines.proofs.Lining.{ended-written}
 use borrow.Author.Needs.{needs}
-use Rattle.link_form.proofs.lines.write_ended.Statement.{statement}
-use Rattle.link_form.proofs.lines.write_ended.Tie as tie
-use Rattle.link_form.proofs.lines.write_ended.Reads as reads
-use Rattle.link_form.proofs.lines.write_ended.Lts as lts
-use Rattle.link_form.proofs.decimal.write_decimal.Reads as write-decimal-reads
+use Rattle.link_lines.proofs.lines.write_ended.Statement.{statement}
+use Rattle.link_lines.proofs.lines.write_ended.Tie as tie
+use Rattle.link_lines.proofs.lines.write_ended.Reads as reads
+use Rattle.link_lines.proofs.lines.write_ended.Lts as lts
+use Rattle.link_lines.proofs.decimal.write_decimal.Reads as write-decimal-reads
 
 -- src/lines.rt:19:9
 write-decimal-requires : tie.Need-write-decimal-requires

@@ -10,9 +10,9 @@ use lib.Seq.{take-suc, take-all}
 use Rattle.areas.specs.Stretch.{put}
 use Rattle.areas.proofs.Stretch.{put-none, put-more, length-put}
 use Rattle.areas.proofs.Behind.{put-behind}
-use Rattle.link_form.specs.Decimal.{mostDigits, decimal}
-use Rattle.link_form.specs.Lines.{space, newline, markText, ended, headerLine, answerLine, valueLines, mostEnded, mostHeader, mostAnswer}
-use Rattle.link_form.proofs.Said.{few-digits}
+use Rattle.link_lines.specs.Decimal.{mostDigits, decimal}
+use Rattle.link_lines.specs.Lines.{space, newline, markText, ended, headerLine, answerLine, valueLines, mostEnded, mostHeader, mostAnswer}
+use Rattle.link_lines.proofs.Said.{few-digits}
 
 -- the text stands from `at` up to p, and nothing else is changed
 pub record Told (before : List ℕ) (at : ℕ) (text : List ℕ) (p : ℕ) (out : List ℕ) : Type 0 where

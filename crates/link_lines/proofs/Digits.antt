@@ -9,7 +9,7 @@ use lib.ListN.{length, getD, set, take, drop, length-set, length-drop, drop-of-l
 use lib.Seq.{drop-cons, getD-set-same, drop-set-lt, take-all}
 use lib.Dec.{ltb}
 use borrow.Author.Tests.{lt-ltb, le-ltb}
-use Rattle.link_form.specs.Decimal.{mostDigits, digitsBefore, decimal, Laid}
+use Rattle.link_lines.specs.Decimal.{mostDigits, digitsBefore, decimal, Laid}
 
 -- 10 to the k
 unfoldable pub ten : ℕ → ℕ

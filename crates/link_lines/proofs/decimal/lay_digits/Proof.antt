@@ -1,11 +1,11 @@
 use borrow.Author.Needs.{needs}
 use lib.ListN.{length-set}
-use Rattle.link_form.proofs.Digits.{Laying, laying-begin, laying-room, laying-turn, laying-end}
+use Rattle.link_lines.proofs.Digits.{Laying, laying-begin, laying-room, laying-turn, laying-end}
 use native.Mathlib.Omega.{arith}
-use Rattle.link_form.proofs.decimal.lay_digits.Statement.{statement}
-use Rattle.link_form.proofs.decimal.lay_digits.Tie as tie
-use Rattle.link_form.proofs.decimal.lay_digits.Reads as reads
-use Rattle.link_form.proofs.decimal.lay_digits.Lts as lts
+use Rattle.link_lines.proofs.decimal.lay_digits.Statement.{statement}
+use Rattle.link_lines.proofs.decimal.lay_digits.Tie as tie
+use Rattle.link_lines.proofs.decimal.lay_digits.Reads as reads
+use Rattle.link_lines.proofs.decimal.lay_digits.Lts as lts
 
 abbrev Inv-loop : tie.InvT-loop
 Inv-loop digits₀ x rest₀ k₀ digits rest k = Laying x digits rest k

@@ -3,7 +3,7 @@ ghost use mathlib.Core.Path.{_≡_};
 ghost use Prim.Native.Nat.{_+_, _*_, _≤_};
 ghost use lib.ListN.{length};
 ghost use Rattle.areas.specs.Stretch.{put};
-ghost use Rattle.link_form.specs.Lines.{ended, markText, headerLine, answerLine, valueLines, mostEnded, mostHeader, mostAnswer};
+ghost use Rattle.link_lines.specs.Lines.{ended, markText, headerLine, answerLine, valueLines, mostEnded, mostHeader, mostAnswer};
 use crate::decimal::write_decimal;
 
 const SPACE: u8 = 32;

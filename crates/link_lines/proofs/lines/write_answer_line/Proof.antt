@@ -1,12 +1,12 @@
 use native.Mathlib.Omega.{arith}
-use Rattle.link_form.specs.Lines.{space, newline, answerLine}
-use Rattle.link_form.proofs.Lining.{ended-short, ended-first, ended-more}
+use Rattle.link_lines.specs.Lines.{space, newline, answerLine}
+use Rattle.link_lines.proofs.Lining.{ended-short, ended-first, ended-more}
 use borrow.Author.Needs.{needs}
-use Rattle.link_form.proofs.lines.write_answer_line.Statement.{statement}
-use Rattle.link_form.proofs.lines.write_answer_line.Tie as tie
-use Rattle.link_form.proofs.lines.write_answer_line.Reads as reads
-use Rattle.link_form.proofs.lines.write_answer_line.Lts as lts
-use Rattle.link_form.proofs.lines.write_ended.Reads as write-ended-reads
+use Rattle.link_lines.proofs.lines.write_answer_line.Statement.{statement}
+use Rattle.link_lines.proofs.lines.write_answer_line.Tie as tie
+use Rattle.link_lines.proofs.lines.write_answer_line.Reads as reads
+use Rattle.link_lines.proofs.lines.write_answer_line.Lts as lts
+use Rattle.link_lines.proofs.lines.write_ended.Reads as write-ended-reads
 
 -- src/lines.rt:54:9
 write-ended-requires : tie.Need-write-ended-requires

@@ -2,12 +2,12 @@ use borrow.Author.Needs.{needs}
 use native.Mathlib.Omega.{arith}
 use Prim.Native.Nat.{_-_}
 use lib.ListN.{length}
-use Rattle.link_form.proofs.Lining.{Listing, listing-begin, listing-room, listing-turn, listing-end}
-use Rattle.link_form.proofs.lines.write_values.Statement.{statement}
-use Rattle.link_form.proofs.lines.write_values.Tie as tie
-use Rattle.link_form.proofs.lines.write_values.Reads as reads
-use Rattle.link_form.proofs.lines.write_values.Lts as lts
-use Rattle.link_form.proofs.lines.write_ended.Reads as write-ended-reads
+use Rattle.link_lines.proofs.Lining.{Listing, listing-begin, listing-room, listing-turn, listing-end}
+use Rattle.link_lines.proofs.lines.write_values.Statement.{statement}
+use Rattle.link_lines.proofs.lines.write_values.Tie as tie
+use Rattle.link_lines.proofs.lines.write_values.Reads as reads
+use Rattle.link_lines.proofs.lines.write_values.Lts as lts
+use Rattle.link_lines.proofs.lines.write_ended.Reads as write-ended-reads
 
 abbrev Inv-loop : tie.InvT-loop
 Inv-loop out₀ at values p₀ i₀ out p i = Listing values out₀ at p i out
