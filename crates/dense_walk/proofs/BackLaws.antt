@@ -16,8 +16,8 @@ use Rattle.gf2.proofs.Order.{rising-above}
 use Rattle.gf2.proofs.Values.{meets-all-set, meets-set-lead}
 use Rattle.dense_rows.specs.Bits.{Row, Clear, hasBit, columnsFrom, columns, equationOf, equationsOf}
 use Rattle.dense_rows.proofs.ColumnLaws.{columns-lead, rising-columns}
-use Rattle.dense.specs.Eliminate.{pin, backSub}
-use Rattle.dense.specs.Stairs.{Stairs}
+use Rattle.dense_walk.specs.Eliminate.{pin, backSub}
+use Rattle.dense_walk.specs.Stairs.{Stairs}
 
 -- the columns of a pivot's row: the pivot, then columns above it
 tail : ℕ → ℕ → Row → List ℕ

@@ -3,9 +3,9 @@ use mathlib.Core.Path.{_≡_}
 use Prim.Native.Nat.{_+_, _-_}
 use native.Mathlib.Omega.{arith}
 use borrow.Author.Needs.{needs}
-use Rattle.dense.proofs.Backing.{Backing, backing-begin, backing-pivot, backing-word, backing-row, backing-constant, backing-listed, backing-turn, backing-end}
-use Rattle.dense.proofs.back.back_substitution.Statement.{statement}
-use Rattle.dense.proofs.back.back_substitution.Tie as tie
+use Rattle.dense_walk.proofs.Backing.{Backing, backing-begin, backing-pivot, backing-word, backing-row, backing-constant, backing-listed, backing-turn, backing-end}
+use Rattle.dense_walk.proofs.back.back_substitution.Statement.{statement}
+use Rattle.dense_walk.proofs.back.back_substitution.Tie as tie
 
 abbrev Inv-loop : tie.InvT-loop
 Inv-loop words m w numbers rank solution₀ i₀ solution i = Backing words m w numbers rank solution₀ i solution

@@ -10,10 +10,10 @@ use Rattle.gf2.proofs.Each.{each-at, each-map, each-set, each-append, each-take
 use Rattle.gf2.proofs.EachMap.{each-of-map, each-both}
 use Rattle.dense_rows.specs.Bits.{Row, bitAt, columnsFrom, equationsOf, xorWords}
 use Rattle.dense_rows.specs.Steps.{fromWord, noRow, swapRows, xorFrom, clearRow}
-use Rattle.dense_rows.proofs.StepLaws.{Wide, Narrow, ZeroBefore, words-zero, clearRow-cases, swap-from-word, xor-from-word}
-use Rattle.dense.specs.Eliminate.{Step, passed, taken, column}
-use Rattle.dense.proofs.ColumnStep.{Stepped, pass, first, later, stepped, Good, step-leaves}
-use Rattle.dense.proofs.Theorems.{wide-good}
+use Rattle.dense_rows.proofs.StepLaws.{Wide, WordSized, ZeroBefore, words-zero, clearRow-cases, swap-from-word, xor-from-word}
+use Rattle.dense_walk.specs.Eliminate.{Step, passed, taken, column}
+use Rattle.dense_walk.proofs.ColumnStep.{Stepped, pass, first, later, stepped, Good, step-leaves}
+use Rattle.dense_walk.proofs.RowTheorems.{wide-good}
 
 -- the rows from the rank on, as the walk comes to column c
 pub data Reached (rows : List Row) : ℕ → List Row → Type 0 where
@@ -24,9 +24,9 @@ pub data Reached (rows : List Row) : ℕ → List Row → Type 0 where
 -- ---- words of 64 bits stay so
 
 abbrev Slim : Row → Type 0
-Slim row = Narrow (row .words)
+Slim row = WordSized (row .words)
 
-slim-xor : (a b : List ℕ) → Narrow a → Narrow b → Narrow (xorWords a b)
+slim-xor : (a b : List ℕ) → WordSized a → WordSized b → WordSized (xorWords a b)
 unfolding xorWords
 slim-xor [] b h k = k
 slim-xor (x ∷ a) [] h k = h
@@ -64,9 +64,9 @@ step-slim {c} (later {a} {below} j l e) h =
 
 -- ---- along the walk
 
-module _ (w : ℕ) (rows : List Row) (wide : Each (Wide w) rows) (narrow : Each (λ row. Narrow (row .words)) rows) where
+module _ (w : ℕ) (rows : List Row) (wide : Each (Wide w) rows) (sized : Each (λ row. WordSized (row .words)) rows) where
   reached-slim : {c : ℕ} {rest : List Row} → Reached rows c rest → Each Slim rest
-  reached-slim begin = narrow
+  reached-slim begin = sized
   reached-slim (passed-over r e) = reached-slim r
   reached-slim (pivoted {c} {rest} r e) = subst (SlimStep rest) e (step-slim (stepped c rest) (reached-slim r))
 

@@ -18,9 +18,9 @@ use Rattle.dense_rows.specs.declared.Pivot.{Pivot}
 use Rattle.dense_rows.specs.declared.Pivot.the-variants.{At, Nowhere}
 use Rattle.dense_rows.proofs.HeldLaws.{rows-length, held-constant}
 use Rattle.dense_rows.proofs.SearchLaws.{Found, at, nowhere, found, moved, pivot-moved}
-use Rattle.dense.specs.Eliminate.{Step, passed, taken, topped, column, Walk, onTop, walk, residue}
-use Rattle.dense.specs.Areas.{Eliminated}
-use Rattle.dense.proofs.WalkLaws.{stopped}
+use Rattle.dense_walk.specs.Eliminate.{Step, passed, taken, topped, column, Walk, onTop, walk, residue}
+use Rattle.dense_walk.specs.Areas.{Eliminated}
+use Rattle.dense_walk.proofs.WalkLaws.{stopped}
 
 -- ---- the cases of a column and of the walk
 

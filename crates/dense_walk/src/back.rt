@@ -4,8 +4,8 @@ ghost use Prim.Native.Nat.{_+_, _*_, _≤_};
 ghost use lib.ListN.{length, take};
 ghost use Rattle.answers.specs.Sizes.{maxRowWords};
 ghost use Rattle.dense_rows.specs.Rows.{held};
-ghost use Rattle.dense.specs.Eliminate.{backSub};
-ghost use Rattle.dense.specs.Stairs.{Ready};
+ghost use Rattle.dense_walk.specs.Eliminate.{backSub};
+ghost use Rattle.dense_walk.specs.Stairs.{Ready};
 use dense_rows::values::row_value;
 
 // From the last pivot to the first, each pivot gets the value that meets its row.

@@ -19,9 +19,9 @@ use Rattle.dense_rows.specs.Steps.{noRow}
 use Rattle.dense_rows.proofs.ColumnLaws.{columnsFrom-add, columnsFrom-none, columns-below, rising-columns}
 use Rattle.dense_rows.proofs.HeldLaws.{rows-length, row-of, held-constant}
 use Rattle.dense_rows.proofs.SetBits.{onward}
-use Rattle.dense.specs.Eliminate.{pin, backSub}
-use Rattle.dense.specs.Stairs.{Stairs, Ready}
-use Rattle.dense.proofs.BackLaws.{back-length}
+use Rattle.dense_walk.specs.Eliminate.{pin, backSub}
+use Rattle.dense_walk.specs.Stairs.{Stairs, Ready}
+use Rattle.dense_walk.proofs.BackLaws.{back-length}
 
 -- ---- the columns of a row from a word on
 

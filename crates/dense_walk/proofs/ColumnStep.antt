@@ -17,7 +17,7 @@ use Rattle.dense_rows.specs.declared.Pivot.the-variants.{At, Nowhere}
 use Rattle.dense_rows.proofs.ColumnLaws.{clear-next}
 use Rattle.dense_rows.proofs.SearchLaws.{Found, at, nowhere, found}
 use Rattle.dense_rows.proofs.StepLaws.{Wide, wide-fromWord, wide-xorFrom, equation-fromWord, equation-xorFrom, hasBit-fromWord, hasBit-xorFrom, clearRow-cases}
-use Rattle.dense.specs.Eliminate.{Step, passed, taken, topped, column}
+use Rattle.dense_walk.specs.Eliminate.{Step, passed, taken, topped, column}
 
 -- ---- the rules: laws go by clauses on them
 

@@ -2,9 +2,9 @@
 use Prim.Native.Nat.{_-_}
 use native.Mathlib.Omega.{arith}
 use borrow.Author.Needs.{needs}
-use Rattle.dense.proofs.Walking.{Leaving, leaving-begin, leaving-found, leaving-turn, leaving-end}
-use Rattle.dense.proofs.walk.constant_left.Statement.{statement}
-use Rattle.dense.proofs.walk.constant_left.Tie as tie
+use Rattle.dense_walk.proofs.Walking.{Leaving, leaving-begin, leaving-found, leaving-turn, leaving-end}
+use Rattle.dense_walk.proofs.walk.constant_left.Statement.{statement}
+use Rattle.dense_walk.proofs.walk.constant_left.Tie as tie
 
 abbrev Inv-loop : tie.InvT-loop
 Inv-loop words m w rank i₀ i = Leaving words m w rank i

@@ -7,9 +7,9 @@ use native.Mathlib.Omega.{arith}
 use Rattle.gf2.specs.Equation.{Equation, Each, sum}
 use Rattle.gf2.proofs.Each.{each-map}
 use Rattle.dense_rows.specs.Bits.{Row, Clear, equationOf}
-use Rattle.dense.specs.Eliminate.{Step, passed, taken, column, Walk, onTop, walk}
-use Rattle.dense.specs.Stairs.{Stairs}
-use Rattle.dense.proofs.ColumnStep.{Stepped, stepped, Good, step-leaves, step-ahead, step-behind}
+use Rattle.dense_walk.specs.Eliminate.{Step, passed, taken, column, Walk, onTop, walk}
+use Rattle.dense_walk.specs.Stairs.{Stairs}
+use Rattle.dense_walk.proofs.ColumnStep.{Stepped, stepped, Good, step-leaves, step-ahead, step-behind}
 
 abbrev pub stopped : List Row → Walk
 stopped rest = record { pivots = []; rows = []; left = rest }

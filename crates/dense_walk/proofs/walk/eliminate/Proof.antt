@@ -5,9 +5,9 @@ use Prim.Native.Nat.{_-_}
 use native.Mathlib.Omega.{arith}
 use lib.ListN.{length-set}
 use borrow.Author.Needs.{needs}
-use Rattle.dense.proofs.Walking.{Walking, walking-begin, walking-place, walking-skip, walking-turn, walking-end}
-use Rattle.dense.proofs.walk.eliminate.Statement.{statement}
-use Rattle.dense.proofs.walk.eliminate.Tie as tie
+use Rattle.dense_walk.proofs.Walking.{Walking, walking-begin, walking-place, walking-skip, walking-turn, walking-end}
+use Rattle.dense_walk.proofs.walk.eliminate.Statement.{statement}
+use Rattle.dense_walk.proofs.walk.eliminate.Tie as tie
 
 abbrev Inv-loop : tie.InvT-loop
 Inv-loop n m w numbers₀ words₀ rank₀ col₀ numbers words rank col = Walking n m w numbers₀ words₀ rank col numbers words

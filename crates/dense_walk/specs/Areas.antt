@@ -4,7 +4,7 @@ use mathlib.Core.List.{List}
 use Prim.Native.Nat.{ℕ, _+_, _*_, _≤_}
 use lib.ListN.{length, take, drop}
 use Rattle.dense_rows.specs.Rows.{held}
-use Rattle.dense.specs.Eliminate.{Walk, walk}
+use Rattle.dense_walk.specs.Eliminate.{Walk, walk}
 
 -- the numbers hold the pivots, and the words the pivot rows and then the rows that are left; the rest is untouched
 pub record Eliminated (n m w : ℕ) (numbers words : List ℕ) (rank : ℕ) (numbers′ words′ : List ℕ) : Type 0 where
