@@ -13,7 +13,7 @@ use lent_cells::cells::left_words;
 use lent_cells::cells::mark_numbers;
 use lent_cells::cells::mark_words;
 use lent_cells::cells::same_words;
-use system::Checked;
+use system_check::Checked;
 
 fn mark(solution: &mut [u64], numbers: &mut [u32], words: &mut [u64]) {
     mark_words(solution);
@@ -64,7 +64,7 @@ fn checked(
     constants: &[u64],
     solution: &[u64],
 ) {
-    match system::check(n, m, starts, vars, constants, solution) {
+    match system_check::check(n, m, starts, vars, constants, solution) {
         Checked::Refused(answer) => {
             count(tally, CHECK, answer);
             hold(tally, false);

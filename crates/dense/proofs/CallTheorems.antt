@@ -20,7 +20,7 @@ use Rattle.answers.specs.declared.Rules.the-variants.{Kept, Broken}
 use Rattle.answers.proofs.Calls.{Early, Admitted, solved-call, unsolvable-call, none-call}
 use Rattle.dense_rows.specs.Bits.{Row, rowFits}
 use Rattle.dense_rows.specs.Rows.{rowsOf}
-use Rattle.dense.specs.Eliminate.{denseElimination}
+use Rattle.dense_walk.specs.Eliminate.{denseElimination}
 use Rattle.dense.specs.Call.{rowRules, denseRules, denseEquations, denseCall}
 use Rattle.dense.proofs.Theorems.{dense-canonical, dense-exact, dense-narrow, dense-isolated}
 

@@ -10,7 +10,7 @@ use Rattle.answers.specs.declared.Answer.the-variants.{Solved, BadEntry, Unsolv
 use Rattle.dense_rows.specs.Bits.{Row, bitAt, columnsFrom, emptyFrom, xorWords}
 use Rattle.dense_rows.specs.Rows.{rowAt, rowsFrom}
 use Rattle.dense_rows.specs.Steps.{pivotFrom, fromWord, swapRows, xorFrom, clearRow}
-use Rattle.dense.specs.Eliminate.{topped, column, walk, residue, pin, backSub, finish, denseElimination}
+use Rattle.dense_walk.specs.Eliminate.{topped, column, walk, residue, pin, backSub, finish, denseElimination}
 use Rattle.dense.specs.Call.{rowRules, denseRules, denseCall}
 
 -- P1: n 3, no equations

@@ -1,11 +1,5 @@
-pub mod ColumnStep
-pub mod WalkLaws
-pub mod BackLaws
 pub mod Lending
 pub mod Theorems
-pub mod WordsBefore
-pub mod Walking
-pub mod Backing
 pub mod Running
 pub mod RowRules
 pub mod Examples

@@ -22,14 +22,14 @@ use Rattle.dense_rows.specs.Steps.{noRow}
 use Rattle.dense_rows.proofs.ColumnLaws.{columnsFrom-add, columnsFrom-none, columns-below}
 use Rattle.dense_rows.proofs.HeldLaws.{rows-length, rows-are, row-of, rows-wide}
 use Rattle.dense_rows.proofs.Emptiness.{fits-no-bit}
-use Rattle.dense.specs.Eliminate.{Walk, walk, residue, backSub, finish, denseElimination}
-use Rattle.dense.specs.Stairs.{Ready}
-use Rattle.dense.specs.Areas.{Eliminated}
+use Rattle.dense_walk.specs.Eliminate.{Walk, walk, residue, backSub, finish, denseElimination}
+use Rattle.dense_walk.specs.Stairs.{Ready}
+use Rattle.dense_walk.specs.Areas.{Eliminated}
 use Rattle.dense.specs.Call.{rowRules, denseRules}
 use Rattle.dense.proofs.Lending.{Admitted, admitted-by}
 use Rattle.dense.proofs.RowRules.{rules-fit}
-use Rattle.dense.proofs.Theorems.{wide-good}
-use Rattle.dense.proofs.WalkLaws.{walked, walked-stairs, walked-ahead}
+use Rattle.dense_walk.proofs.RowTheorems.{wide-good}
+use Rattle.dense_walk.proofs.WalkLaws.{walked, walked-stairs, walked-ahead}
 
 -- ---- the system is loaded
 

@@ -12,7 +12,7 @@ use Rattle.answers.specs.declared.Rules.{Rules}
 use Rattle.answers.specs.declared.Rules.the-variants.{Kept, Broken}
 use Rattle.dense_rows.specs.Bits.{Row, rowFits, equationsOf}
 use Rattle.dense_rows.specs.Rows.{rowsOf}
-use Rattle.dense.specs.Eliminate.{denseElimination}
+use Rattle.dense_walk.specs.Eliminate.{denseElimination}
 
 -- ---- rule 3
 

@@ -1,4 +1,1 @@
-pub mod Eliminate
-pub mod Stairs
-pub mod Areas
 pub mod Call

@@ -6,13 +6,13 @@ ghost use Rattle.areas.specs.Stretch.{cleared};
 ghost use Rattle.answers.specs.Sizes.{denseNumbers, denseWords};
 ghost use Rattle.answers.specs.Calls.{ran};
 ghost use Rattle.dense_rows.specs.Rows.{rowsOf, Became};
-ghost use Rattle.dense.specs.Eliminate.{denseElimination};
+ghost use Rattle.dense_walk.specs.Eliminate.{denseElimination};
 ghost use Rattle.answers.specs.declared.Rules.the-variants.{Kept};
 ghost use Rattle.dense.specs.Call.{denseRules};
-use crate::back::back_substitution;
-use crate::walk::constant_left;
-use crate::walk::eliminate;
 use answers::Answer;
+use dense_walk::back::back_substitution;
+use dense_walk::walk::constant_left;
+use dense_walk::walk::eliminate;
 
 // The rows, and after them the constants.
 fn load(m: usize, w: usize, rows: &[u64], constants: &[u64], words: &mut [u64])

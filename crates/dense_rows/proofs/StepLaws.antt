@@ -140,16 +140,16 @@ clearRow-cases P c p r f g = go (hasBit c r) refl
 -- ---- whole rows, where the words before are zero
 
 -- words of 64 bits
-abbrev pub Narrow : List ℕ → Type 0
-Narrow words = Each (λ x. x < 2 ^ 64) words
+abbrev pub WordSized : List ℕ → Type 0
+WordSized words = Each (λ x. x < 2 ^ 64) words
 
 digit-zero : (d : ℕ) → d < 2 → eqb d 1 ≡ false → d ≡ 0
 digit-zero d h = digit-cases (λ x. eqb x 1 ≡ false → x ≡ 0) d h (λ e. refl) (λ e. absurd (true≢false e))
 
 -- a row of 64-bit words with no bit below column c: every word before the column's word is 0
-pub words-zero : (c : ℕ) (words : List ℕ) → Narrow words → Clear c words → (j : ℕ) → j < c / 64 → getD words j 0 ≡ 0
+pub words-zero : (c : ℕ) (words : List ℕ) → WordSized words → Clear c words → (j : ℕ) → j < c / 64 → getD words j 0 ≡ 0
 unfolding bitAt
-words-zero c words narrow f j h = go (decLt j (length words))
+words-zero c words sized f j h = go (decLt j (length words))
   where
     bit : (i : ℕ) → i < 64 → getD words j 0 / 2 ^ i % 2 ≡ 0
     bit i l =
@@ -158,7 +158,7 @@ words-zero c words narrow f j h = go (decLt j (length words))
         digit-zero (getD words j 0 / 2 ^ i % 2) (mod-lt _ (zero-lt-suc 1)) (rw (d, r) at (f (64 * j + i) (omega arith)))
 
     go : Dec (j < length words) → getD words j 0 ≡ 0
-    go (yes l) = no-digits 64 (getD words j 0) (each-at (λ x. x < 2 ^ 64) words 0 j l narrow) bit
+    go (yes l) = no-digits 64 (getD words j 0) (each-at (λ x. x < 2 ^ 64) words 0 j l sized) bit
     go (no l) = List·getD-eq-default words 0 (omega arith)
 
 -- the first k words of the row are 0

@@ -2,8 +2,8 @@
 use Prim.Native.Nat.{ℕ}
 use Rattle.answers.specs.Numbers.{numberOf, placeOf}
 use Rattle.answers.specs.declared.Answer.the-variants.{Solved, Unsolvable}
-use Rattle.system.specs.declared.Checked.{Checked}
-use Rattle.system.specs.declared.Checked.the-variants.{Refused, Yes, No}
+use Rattle.system_check.specs.declared.Checked.{Checked}
+use Rattle.system_check.specs.declared.Checked.the-variants.{Refused, Yes, No}
 
 abbrev pub toldNumber : Checked → ℕ
 toldNumber (Refused answer) = numberOf answer

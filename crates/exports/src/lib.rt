@@ -2,11 +2,11 @@
 pub mod lazy_elimination;
 
 use answers::Answer;
-use system::Checked;
+use system_check::Checked;
 ghost use mathlib.Core.Path.{_≡_};
 ghost use Rattle.answers.specs.Numbers.{numberOf, placeOf};
 ghost use Rattle.equation.specs.Sums.{sumCall};
-ghost use Rattle.system.specs.System.{checkCall};
+ghost use Rattle.system_check.specs.CheckCall.{checkCall};
 ghost use Rattle.sparse.specs.SparseCall.{sparseCall};
 ghost use Rattle.dense.specs.Call.{denseCall};
 ghost use Rattle.exports.specs.Told.{toldNumber, toldPlace};
@@ -45,7 +45,7 @@ pub extern "C" fn orohkaril_sum(
     tell(answer, place)
 }
 
-// `system::check`: a refusal's number, 0 for yes, 6 for no.
+// `system_check::check`: a refusal's number, 0 for yes, 6 for no.
 #[no_mangle]
 pub extern "C" fn orohkaril_check(
     n: usize,
@@ -59,7 +59,7 @@ pub extern "C" fn orohkaril_check(
     ensures { λ r. ⌜ r ≡ toldNumber (checkCall n m (now (starts .entry)) (now (vars .entry)) (now (constants .entry)) (now (solution .entry))) ⌝ }
     ensures { λ _. ⌜ now (place .exit) ≡ toldPlace (checkCall n m (now (starts .entry)) (now (vars .entry)) (now (constants .entry)) (now (solution .entry))) ⌝ }
 {
-    match system::check(n, m, starts, vars, constants, solution) {
+    match system_check::check(n, m, starts, vars, constants, solution) {
         Checked::Refused(answer) => tell(answer, place),
         Checked::Yes => tell(Answer::Solved, place),
         Checked::No => tell(Answer::Unsolvable, place),

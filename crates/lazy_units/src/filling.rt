@@ -26,7 +26,7 @@ fn fill_one(
 {
     let len = numbers[lengths + e] as usize;
     let p = e * n;
-    let sum = system::eval_vars(&numbers[p..p + len], solution);
+    let sum = system_check::eval_vars(&numbers[p..p + len], solution);
     solution[v] = words[e] ^ sum;
 }
 

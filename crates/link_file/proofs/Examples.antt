@@ -12,9 +12,9 @@ use Rattle.sparse.specs.SparseCall.{sparseCall}
 use Rattle.lazy.specs.Lazy.{lazyElimination, wholeRun, after, unit, pop, popEquation, popVariable, popDense, passOver, copy, solveFor, skip, activate, lowered, pushed, addedInto, denseRow, lastUnit, fill, start, heaviest, listing, others}
 use Rattle.lazy_units.specs.LazyCall.{lazyCall}
 use Rattle.link_form.specs.Bytes.{little, fields}
-use Rattle.link_form.specs.Decimal.{decimal, digitsBefore}
+use Rattle.link_lines.specs.Decimal.{decimal, digitsBefore}
 use Rattle.link_form.specs.File.{count, rowBytes, row, readRows, headerKept, readFile}
-use Rattle.link_form.specs.Lines.{ended, headerLine, answerLine, valueLines}
+use Rattle.link_lines.specs.Lines.{ended, headerLine, answerLine, valueLines}
 use Rattle.link_form.specs.Loading.{startsFrom, varsOf, constantsOf}
 use Rattle.link_rows.specs.RowsCall.{solverOf}
 use Rattle.link_file.specs.Text.{served, answered, outcomeText, textOf, linkText}

@@ -7,9 +7,9 @@ use Rattle.system.specs.Fits.{listedIn}
 use Rattle.peel_rules.specs.Edges.{badEdge, touches, degree, edgeAt, without, sideOf, pivot, first, second}
 use Rattle.peel_rules.specs.Peel.{push, popped, pop, step, run, ones, start, peel, fillOne, fill, verdict, answer, crowdedFrom, crowdedVertex}
 use Rattle.link_form.specs.Bytes.{little, fields}
-use Rattle.link_form.specs.Decimal.{decimal, digitsBefore}
+use Rattle.link_lines.specs.Decimal.{decimal, digitsBefore}
 use Rattle.link_form.specs.File.{count, rowBytes, row, readRows, headerKept, readFile}
-use Rattle.link_form.specs.Lines.{ended, headerLine, answerLine, valueLines}
+use Rattle.link_lines.specs.Lines.{ended, headerLine, answerLine, valueLines}
 use Rattle.link_edges.specs.Edges.{edgeOf, edgesOf, lentCall}
 use Rattle.link_file.specs.Text.{served, answered, outcomeText, textOf, linkText}
 

@@ -19,10 +19,10 @@ use Rattle.areas.specs.Stretch.{put}
 use Rattle.areas.proofs.Stretch.{take-replicate}
 use Rattle.link_form.specs.declared.scan.Form.the-variants.{Malformed, Described}
 use Rattle.link_form.specs.File.{Link, peelKind, width, headerBytes, readRows, readFile, formOf}
-use Rattle.link_form.specs.Lines.{headerLine, answerLine, valueLines, mostEnded, mostHeader, mostAnswer}
+use Rattle.link_lines.specs.Lines.{headerLine, answerLine, valueLines, mostEnded, mostHeader, mostAnswer}
 use Rattle.link_form.specs.Lent.{mostVariables, mostRows, mostListed, zeros, fileRows, Served}
 use Rattle.link_form.proofs.Loadable.{Loadable, loadable}
-use Rattle.link_form.proofs.Lining.{Told, told-first, told-more, header-short, answer-short, values-short}
+use Rattle.link_lines.proofs.Lining.{Told, told-first, told-more, header-short, answer-short, values-short}
 use Rattle.link_rows.specs.RowsCall.{rowsCall}
 use Rattle.link_rows.proofs.Solving.{rows-solves}
 use Rattle.link_edges.specs.Edges.{edgesCall}

@@ -16,10 +16,10 @@ use Rattle.answers.specs.declared.Answer.the-variants.{Solved}
 use Rattle.system.specs.Fits.{listedIn}
 use Rattle.link_form.specs.File.{Link, readFile, writeFile}
 use Rattle.link_form.specs.Fitting.{LinkFits}
-use Rattle.link_form.specs.Lines.{headerLine, answerLine, valueLines}
+use Rattle.link_lines.specs.Lines.{headerLine, answerLine, valueLines}
 use Rattle.link_form.proofs.OneFile.{link-written}
 use Rattle.link_form.proofs.Loadable.{Loadable, loadable}
-use Rattle.link_form.proofs.Lining.{header-short, answer-short}
+use Rattle.link_lines.proofs.Lining.{header-short, answer-short}
 use Rattle.link_file.specs.Text.{version, outcome, answered, outcomeText, fileLink, textOf, fileText, linkText, mostText, LinkCall, linkCall}
 use Rattle.link_file.proofs.Texts.{solved-text, answered-solves, answered-fits}
 

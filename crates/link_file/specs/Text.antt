@@ -14,7 +14,7 @@ use Rattle.answers.specs.declared.Answer.the-variants.{TooLarge, BadFile}
 use Rattle.system.specs.Fits.{listedIn}
 use Rattle.peel_rules.specs.Calls.{PeelCall}
 use Rattle.link_form.specs.File.{Link, peelKind, readFile}
-use Rattle.link_form.specs.Lines.{headerLine, answerLine, valueLines, mostEnded, mostHeader, mostAnswer}
+use Rattle.link_lines.specs.Lines.{headerLine, answerLine, valueLines, mostEnded, mostHeader, mostAnswer}
 use Rattle.link_form.specs.Lent.{mostVariables, mostRows, mostListed, zeros, fileRows}
 use Rattle.link_rows.specs.RowsCall.{rowsCall}
 use Rattle.link_edges.specs.Edges.{edgesCall}

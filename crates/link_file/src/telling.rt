@@ -6,7 +6,7 @@ ghost use Rattle.areas.specs.Stretch.{put};
 ghost use Rattle.system.specs.Fits.{listedIn};
 ghost use Rattle.link_form.specs.declared.scan.Form.the-variants.{Described};
 ghost use Rattle.link_form.specs.File.{readFile, formOf};
-ghost use Rattle.link_form.specs.Lines.{mostEnded, mostAnswer};
+ghost use Rattle.link_lines.specs.Lines.{mostEnded, mostAnswer};
 ghost use Rattle.link_form.specs.Lent.{Served, fileRows, zeros};
 ghost use Rattle.link_file.specs.Text.{outcome, served, fileLink, answered, refusalText, outcomeText, mostOutcome};
 use crate::solving::sizes_served;
@@ -22,7 +22,7 @@ pub fn write_refusal(out: &mut [u8], at: usize, answer: Answer) -> usize
 {
     let number = answer.number();
     let place = answer.place();
-    link_form::write_answer_line(out, at, number, place)
+    link_lines::write_answer_line(out, at, number, place)
 }
 
 // Writes the answer, and the values after 0 only.
@@ -36,7 +36,7 @@ fn write_outcome(out: &mut [u8], at: usize, answer: Answer, values: &[u64]) -> u
     if number > 0 {
         return p;
     }
-    link_form::write_values(out, p, values)
+    link_lines::write_values(out, p, values)
 }
 
 // Solves in the cells that are lent, and writes the outcome.

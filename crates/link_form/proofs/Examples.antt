@@ -6,7 +6,6 @@ use Prim.Native.Nat.{ℕ}
 use Rattle.gf2.specs.Equation.{eqn}
 use Rattle.areas.specs.Stretch.{stretch}
 use Rattle.link_form.specs.Bytes.{little, fields, bytesOf, allBytes}
-use Rattle.link_form.specs.Decimal.{decimal, digitsBefore}
 use Rattle.link_form.specs.File.{Link, count, rowBytes, row, readRows, headerKept, readFile, rowOut, rowsOut, writeFile}
 
 abbrev file : List ℕ
@@ -29,7 +28,3 @@ is-written = refl
 left-over : readFile (file ++ (0 ∷ [])) ≡ none
 unfolding readFile headerKept readRows rowBytes count row little fields stretch
 left-over = refl
-
-digits : decimal 18446744073709551615 ≡ 49 ∷ 56 ∷ 52 ∷ 52 ∷ 54 ∷ 55 ∷ 52 ∷ 52 ∷ 48 ∷ 55 ∷ 51 ∷ 55 ∷ 48 ∷ 57 ∷ 53 ∷ 53 ∷ 49 ∷ 54 ∷ 49 ∷ 53 ∷ []
-unfolding decimal digitsBefore
-digits = refl

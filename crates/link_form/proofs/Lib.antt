@@ -7,7 +7,4 @@ pub mod OneFile
 pub mod LaidRows
 pub mod Loadable
 pub mod Loading
-pub mod Lining
-pub mod Digits
-pub mod Said
 pub mod Examples

@@ -1,22 +1,16 @@
-// The form of a link file: its numbers read, its rows laid out, its lines written.
+// The form of a link file: its numbers read, its rows laid out.
 mod bytes;
-mod decimal;
 mod lent;
-mod lines;
 mod load;
 mod scan;
 
 pub use bytes::read_number;
-pub use decimal::write_decimal;
 pub use lent::LENT_BYTES;
 pub use lent::LENT_NUMBERS;
 pub use lent::LENT_WORDS;
 pub use lent::MOST_LISTED;
 pub use lent::MOST_ROWS;
 pub use lent::MOST_VARIABLES;
-pub use lines::write_answer_line;
-pub use lines::write_header_line;
-pub use lines::write_values;
 pub use load::load_rows;
 pub use scan::Form;
 pub use scan::HEADER_BYTES;

@@ -6,7 +6,7 @@ use replay_cases::said::Verdict;
 use replay_cases::said::agrees;
 use replay_cases::said::came_of;
 use replay_cases::said::said_of;
-use system::Checked;
+use system_check::Checked;
 
 // The file says 0 for yes and 6 for no.
 fn told(checked: Checked, said: Said) -> bool {
@@ -41,7 +41,7 @@ pub fn check_case(bytes: &[u8]) -> Verdict {
     let l = e.count;
     let p = f.count;
     let said = said_of(&list[0..p]);
-    let checked = system::check(
+    let checked = system_check::check(
         n,
         m,
         &starts[0..i],

@@ -44,7 +44,7 @@ fn pin_row(numbers: &[u32], words: &[u64], n: usize, m: usize, i: usize, solutio
         return;
     }
     let p = i * n;
-    let sum = system::eval_vars(&numbers[p..p + l], solution);
+    let sum = system_check::eval_vars(&numbers[p..p + l], solution);
     let v = numbers[p] as usize;
     solution[v] = words[i] ^ sum;
 }

@@ -1,10 +1,6 @@
 pub mod Climbing
 pub mod InOrder
-pub mod Evaluating
 pub mod Reading
 pub mod Lowest
-pub mod Meeting
 pub mod Soundness
-pub mod Checking
 pub mod SolverCalls
-pub mod Examples

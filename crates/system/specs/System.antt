@@ -1,18 +1,16 @@
--- The lent sparse system: its reading as equations, the rules 1 to 3 that it has to keep, and the answer of `check`.
+-- The lent sparse system: its reading as equations, and the rules 1 to 3 that it has to keep.
 use mathlib.Core.List.{List, [], _∷_}
 use mathlib.Core.Bool.{Bool, true, false, _&&_}
 use Prim.Native.Nat.{ℕ, zero, suc, _+_, _-_}
 use lib.ListN.{length, getD}
 use lib.Dec.{eqb, leb, ltb}
-use Rattle.gf2.specs.Equation.{Equation, eqn, evalVars}
+use Rattle.gf2.specs.Equation.{Equation, eqn}
 use Rattle.areas.specs.Stretch.{stretch}
 use Rattle.answers.specs.Sizes.{maxVariables, maxEquations, maxListed}
 use Rattle.answers.specs.Calls.{pick}
-use Rattle.answers.specs.declared.Answer.the-variants.{TooLarge, BadShape, BadEntry, WrongSolution}
+use Rattle.answers.specs.declared.Answer.the-variants.{TooLarge, BadShape, BadEntry}
 use Rattle.answers.specs.declared.Rules.{Rules}
 use Rattle.answers.specs.declared.Rules.the-variants.{Kept, Broken}
-use Rattle.system.specs.declared.Checked.{Checked}
-use Rattle.system.specs.declared.Checked.the-variants.{Refused, Yes, No}
 
 -- ---- the reading
 
@@ -71,20 +69,3 @@ systemRules n m starts vars constants =
     (pick (ltb (lowestBad n (equations m starts vars constants)) m) (Broken (BadEntry (lowestBad n (equations m starts vars constants)))) Kept)
     (Broken BadShape))
     (Broken TooLarge)
-
--- ---- check
-
--- the vector meets each equation
-unfoldable pub allMet : List ℕ → List Equation → Bool
-allMet x [] = true
-allMet x (e ∷ es) = eqb (evalVars (e .vars) x) (e .c) && allMet x es
-
--- a system that keeps its rules: 4, otherwise yes or no
-abbrev pub checked : Rules → ℕ → List Equation → List ℕ → Checked
-checked (Broken answer) n es solution = Refused answer
-checked Kept n es solution = pick (eqb (length solution) n) (pick (allMet solution es) Yes No) (Refused WrongSolution)
-
--- the answer of `check`
-unfoldable pub checkCall : ℕ → ℕ → List ℕ → List ℕ → List ℕ → List ℕ → Checked
-checkCall n m starts vars constants solution =
-    checked (systemRules n m starts vars constants) n (equations m starts vars constants) solution

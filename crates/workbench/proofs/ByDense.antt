@@ -6,7 +6,7 @@ use Rattle.areas.specs.Stretch.{stretch, put, cleared}
 use Rattle.dense_rows.specs.Bits.{bitAt, columnsFrom, emptyFrom, xorWords}
 use Rattle.dense_rows.specs.Rows.{rowAt, rowsFrom}
 use Rattle.dense_rows.specs.Steps.{pivotFrom, fromWord, swapRows, xorFrom, clearRow}
-use Rattle.dense.specs.Eliminate.{topped, column, walk, residue, pin, backSub, finish, denseElimination}
+use Rattle.dense_walk.specs.Eliminate.{topped, column, walk, residue, pin, backSub, finish, denseElimination}
 use Rattle.dense.specs.Call.{rowRules, denseRules, denseCall}
 
 pub dense-come-out : Each Comes denseLines

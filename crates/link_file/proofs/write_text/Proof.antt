@@ -8,7 +8,7 @@ use Rattle.link_file.proofs.write_text.Reads as reads
 use Rattle.link_file.proofs.write_text.Lts as lts
 use Rattle.link_file.proofs.telling.write_answer.Reads as write-answer-reads
 use Rattle.link_file.proofs.telling.write_refusal.Reads as write-refusal-reads
-use Rattle.link_form.proofs.write_header_line.Reads as write-header-line-reads
+use Rattle.link_lines.proofs.write_header_line.Reads as write-header-line-reads
 use Rattle.link_form.proofs.read_form.Reads as read-form-reads
 
 -- src/lib.rt:23:9

@@ -2,7 +2,7 @@
 use mathlib.Core.Path.{_≡_, refl, sym, ap, _∙_, subst}
 use native.Mathlib.Omega.{arith}
 use borrow.Author.Needs.{needs}
-use Rattle.dense.specs.Stairs.{Ready}
+use Rattle.dense_walk.specs.Stairs.{Ready}
 use Rattle.dense.proofs.Lending.{Admitted, admitted-by}
 use Rattle.dense.proofs.Running.{run-refused, run-solved, run-ready, run-numbers, run-words, zeroed-length, filled}
 use Rattle.dense.proofs.run.solve.Statement.{statement}

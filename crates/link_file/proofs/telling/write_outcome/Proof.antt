@@ -7,7 +7,7 @@ use Rattle.link_file.proofs.telling.write_outcome.Reads as reads
 use Rattle.link_file.proofs.telling.write_outcome.Lts as lts
 use Rattle.answers.proofs.Answer.number.Reads as number-reads
 use Rattle.link_file.proofs.telling.write_refusal.Reads as write-refusal-reads
-use Rattle.link_form.proofs.write_values.Reads as write-values-reads
+use Rattle.link_lines.proofs.write_values.Reads as write-values-reads
 
 -- src/telling.rt:34:9
 write-refusal-requires : tie.Need-write-refusal-requires

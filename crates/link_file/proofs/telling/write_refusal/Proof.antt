@@ -7,7 +7,7 @@ use Rattle.link_file.proofs.telling.write_refusal.Reads as reads
 use Rattle.link_file.proofs.telling.write_refusal.Lts as lts
 use Rattle.answers.proofs.Answer.number.Reads as number-reads
 use Rattle.answers.proofs.Answer.place.Reads as place-reads
-use Rattle.link_form.proofs.write_answer_line.Reads as write-answer-line-reads
+use Rattle.link_lines.proofs.write_answer_line.Reads as write-answer-line-reads
 
 -- src/telling.rt:23:9
 number-requires : tie.Need-number-requires

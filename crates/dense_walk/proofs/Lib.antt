@@ -1,0 +1,7 @@
+pub mod ColumnStep
+pub mod WalkLaws
+pub mod BackLaws
+pub mod RowTheorems
+pub mod WordsBefore
+pub mod Walking
+pub mod Backing

@@ -1,0 +1,3 @@
+pub mod Eliminate
+pub mod Stairs
+pub mod Areas

@@ -1,0 +1,4 @@
+pub mod Digits
+pub mod Said
+pub mod Lining
+pub mod Examples

@@ -1,0 +1,4 @@
+pub mod Evaluating
+pub mod Meeting
+pub mod Checking
+pub mod Examples
