@@ -16,7 +16,7 @@ use lent_cells::cells::mark_bytes;
 use lent_cells::cells::mark_numbers;
 use lent_cells::cells::mark_words;
 use lent_cells::cells::same_words;
-use peel_steps::ends::Peeling;
+use peel_gates::ends::Peeling;
 use peelers::programs::peel_high_of;
 use peelers::programs::peel_low_of;
 use peelers::reading::lookup;

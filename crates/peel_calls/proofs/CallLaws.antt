@@ -10,10 +10,10 @@ use Rattle.answers.specs.Sizes.{maxVariables, maxEquations}
 use Rattle.peeling.specs.declared.numbers.Edge.{Edge}
 use Rattle.peel_rules.specs.Edges.{badEdge}
 use Rattle.peel_rules.proofs.PeelTheorems.{all-valid}
-use Rattle.peel_steps.specs.declared.ends.Peeling.{Peeling}
-use Rattle.peel_steps.specs.declared.rules.Gate.{Gate}
-use Rattle.peel_steps.specs.Pictures.{numbersRoom, bytesRoom}
-use Rattle.peel_steps.specs.Gates.{gateOf}
+use Rattle.peel_gates.specs.declared.ends.Peeling.{Peeling}
+use Rattle.peel_gates.specs.declared.rules.Gate.{Gate}
+use Rattle.peel_gates.specs.Rooms.{numbersRoom, bytesRoom}
+use Rattle.peel_gates.specs.Gates.{gateOf}
 use Rattle.peel_runs.specs.Runs.{Admitted, Leaves, runCall}
 use Rattle.peel_calls.specs.Judging.{Judged, peelingCall}
 

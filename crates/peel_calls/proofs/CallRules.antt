@@ -5,7 +5,7 @@ use mir.Syntax.{seq, call}
 use denote.Plain.{UInt}
 use denote.Struct.Laws as LL
 use Rattle.peel_rules.specs.Edges.{badEdge}
-use Rattle.peel_steps.specs.Gates.{gateOf}
+use Rattle.peel_gates.specs.Gates.{gateOf}
 use Rattle.peel_runs.specs.Runs.{Admitted, Leaves, runCall}
 use Rattle.peel_calls.specs.Judging.{peelingCall, Judged}
 use Rattle.peeling.specs.declared.numbers.Edge.{Edge}
@@ -15,16 +15,16 @@ use Rattle.peel_walks.proofs.table.edge_count as edge-count
 use Rattle.peel_walks.proofs.table.edge_count.Symbol as edge-count-def
 use Rattle.peel_walks.proofs.table.bad_edge as bad-edge
 use Rattle.peel_walks.proofs.table.bad_edge.Symbol as bad-edge-def
-use Rattle.peel_steps.specs.declared.ends.Peeling.{Peeling}
-use Rattle.peel_steps.proofs.ends.Peeling as Peelingᴿ
-use Rattle.peel_steps.proofs.ends.Peeling.Laws as Peelingᴸ
-use Rattle.peel_steps.proofs.rules.opens as opens
-use Rattle.peel_steps.proofs.rules.opens.Symbol as opens-def
-use Rattle.peel_steps.proofs.rules.refusal as refusal
-use Rattle.peel_steps.proofs.rules.refusal.Symbol as refusal-def
+use Rattle.peel_gates.specs.declared.ends.Peeling.{Peeling}
+use Rattle.peel_gates.proofs.ends.Peeling as Peelingᴿ
+use Rattle.peel_gates.proofs.ends.Peeling.Laws as Peelingᴸ
+use Rattle.peel_gates.proofs.rules.opens as opens
+use Rattle.peel_gates.proofs.rules.opens.Symbol as opens-def
+use Rattle.peel_gates.proofs.rules.refusal as refusal
+use Rattle.peel_gates.proofs.rules.refusal.Symbol as refusal-def
 use Rattle.peel_calls.proofs.call.enter as enter
 use Rattle.peel_calls.proofs.call.enter.Symbol as enter-def
-use Rattle.peel_steps.proofs.ends.ended as ended
+use Rattle.peel_gates.proofs.ends.ended as ended
 use Rattle.peel_runs.proofs.run.run_peeler as run-peeler
 use Rattle.peel_runs.proofs.run.run_peeler.Symbol as run-peeler-def
 

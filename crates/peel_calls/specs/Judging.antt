@@ -7,8 +7,8 @@ use lib.ListN.{length}
 use Rattle.peeling.specs.declared.numbers.Edge.{Edge}
 use Rattle.peel_rules.specs.Edges.{badEdge}
 use Rattle.peel_rules.specs.Calls.{PeelCall, peelCall}
-use Rattle.peel_steps.specs.Pictures.{numbersRoom, bytesRoom}
-use Rattle.peel_steps.specs.Gates.{gateOf}
+use Rattle.peel_gates.specs.Rooms.{numbersRoom, bytesRoom}
+use Rattle.peel_gates.specs.Gates.{gateOf}
 
 -- the edges are counted and checked, and it is known whether the call is refused
 pub record Judged (high : Bool) (n m bad : ℕ) (opened : Bool) (T : List Edge) (cells numbers bytes : List ℕ) : Type 0 where

@@ -1,10 +1,10 @@
 // The call of both peelers.
 ghost use Rattle.peel_runs.specs.Runs.{Leaves};
 ghost use Rattle.peel_calls.specs.Judging.{Judged, peelingCall};
+use peel_gates::ends::Peeling;
+use peel_gates::rules::opens;
+use peel_gates::rules::refusal;
 use peel_runs::run::run_peeler;
-use peel_steps::ends::Peeling;
-use peel_steps::rules::opens;
-use peel_steps::rules::refusal;
 use peel_walks::table::bad_edge;
 use peel_walks::table::edge_count;
 use peeling::numbers::Edge;

@@ -4,9 +4,9 @@ use types.Kit.{regoal}
 use mir.Syntax.{seq, call}
 use denote.Struct.Laws as LL
 use Rattle.peel_rules.specs.Calls.{PeelCall}
-use Rattle.peel_steps.specs.declared.ends.Peeling.{Peeling}
-use Rattle.peel_steps.proofs.ends.Peeling as Peelingᴿ
-use Rattle.peel_steps.proofs.ends.Peeling.Laws as Peelingᴸ
+use Rattle.peel_gates.specs.declared.ends.Peeling.{Peeling}
+use Rattle.peel_gates.proofs.ends.Peeling as Peelingᴿ
+use Rattle.peel_gates.proofs.ends.Peeling.Laws as Peelingᴸ
 use Rattle.peel_runs.specs.Runs.{Leaves}
 use Rattle.peel_exports.specs.Told.{Tells, toldBy}
 use Rattle.peel_exports.specs.declared.PeelingTold.{PeelingTold}

@@ -1,6 +1,6 @@
 // The peelers and lookup under plain names, for programs in C or Rust: a slice is a pointer and a length.
 // A lent edge is a C struct of 24 bytes: three 32-bit vertices at 0, 4 and 8, a 64-bit value at 16. The language promises it of `#[repr(C)]`.
-use peel_steps::ends::Peeling;
+use peel_gates::ends::Peeling;
 use peelers::calls::peel_by_sig_vals_high_mem;
 use peelers::calls::peel_by_sig_vals_low_mem;
 use peelers::reading::lookup;

@@ -22,13 +22,15 @@ use Rattle.peel_rules.specs.Report.{noReport, reportOf}
 use Rattle.peel_rules.specs.Machine.{addEdge, build, empty, noted, notedEdge, crowdOf, mones}
 use Rattle.peel_rules.proofs.PeelCore.{Ends, peel-ends}
 use Rattle.peel_rules.proofs.PeelCrowded.{crowd-found}
-use Rattle.peel_steps.specs.declared.ends.Peeling.{Peeling}
-use Rattle.peel_steps.specs.declared.visiting.Heads.{Heads}
-use Rattle.peel_steps.specs.Pictures.{peeledIn, numbersRoom, bytesRoom}
-use Rattle.peel_steps.specs.Steps.{Holds, Preloaded, nextOf}
-use Rattle.peel_steps.specs.Ends.{Lent, endOf}
-use Rattle.peel_steps.proofs.PictureLaws.{set-in, in-graph, drop-agrees}
-use Rattle.peel_steps.proofs.StepLaws.{zeroed-cleared}
+use Rattle.peel_gates.specs.declared.ends.Peeling.{Peeling}
+use Rattle.peel_turns.specs.declared.visiting.Heads.{Heads}
+use Rattle.peel_steps.specs.Pictures.{peeledIn}
+use Rattle.peel_gates.specs.Rooms.{numbersRoom, bytesRoom}
+use Rattle.peel_turns.specs.Steps.{Holds, Preloaded, nextOf}
+use Rattle.peel_gates.specs.Rooms.{Lent}
+use Rattle.peel_gates.specs.Ends.{endOf}
+use Rattle.peel_turns.proofs.PictureLaws.{set-in, in-graph, drop-agrees}
+use Rattle.peel_gates.proofs.RoomLaws.{zeroed-cleared}
 use Rattle.peel_walks.specs.Walks.{Begins, PeelStarts, PeelEnds, Fillable}
 use Rattle.peel_parts.specs.Parts.{Built, PeelAsks, FillAsks, cellsAfter, SettleAsks, Says, ranSays, GraphAsks, Past}
 

@@ -10,26 +10,26 @@ use Rattle.peeling.specs.Graph.{graphOf}
 use Rattle.peel_rules.specs.Peel.{fill}
 use Rattle.peel_rules.specs.Machine.{crowdOf, build}
 use Rattle.peel_steps.specs.Pictures.{peeledIn}
-use Rattle.peel_steps.specs.Steps.{Holds, Preloaded, nextOf}
-use Rattle.peel_steps.specs.Ends.{endOf}
+use Rattle.peel_turns.specs.Steps.{Holds, Preloaded, nextOf}
+use Rattle.peel_gates.specs.Ends.{endOf}
 use Rattle.peel_walks.specs.Walks.{Begins, PeelStarts, PeelEnds, Fillable}
 use Rattle.peel_parts.specs.Parts.{FillAsks, cellsAfter, PeelAsks, SettleAsks, Says, ranSays}
 use Rattle.peeling.specs.declared.numbers.Edge.{Edge}
 use Rattle.peeling.proofs.numbers.Edge as Edgeᴿ
-use Rattle.peel_steps.specs.declared.visiting.Heads.{Heads}
-use Rattle.peel_steps.proofs.visiting.Heads as Headsᴿ
-use Rattle.peel_steps.proofs.visiting.Heads.Laws as Headsᴸ
+use Rattle.peel_turns.specs.declared.visiting.Heads.{Heads}
+use Rattle.peel_turns.proofs.visiting.Heads as Headsᴿ
+use Rattle.peel_turns.proofs.visiting.Heads.Laws as Headsᴸ
 use Rattle.walk_rules.proofs.Lent.{val, at, Shr, Mut, Lent as LentFor, Kept, lends, backs}
 use Rattle.walk_rules.proofs.Shared.{ShrOf, KeptShr, shares, unshares}
-use Rattle.peel_steps.specs.declared.ends.Peeling.{Peeling}
-use Rattle.peel_steps.proofs.ends.Peeling as Peelingᴿ
-use Rattle.peel_steps.proofs.ends.Peeling.Laws as Peelingᴸ
-use Rattle.peel_steps.proofs.ends.empty_graph as empty-graph
-use Rattle.peel_steps.proofs.ends.empty_graph.Symbol as empty-graph-def
+use Rattle.peel_gates.specs.declared.ends.Peeling.{Peeling}
+use Rattle.peel_gates.proofs.ends.Peeling as Peelingᴿ
+use Rattle.peel_gates.proofs.ends.Peeling.Laws as Peelingᴸ
+use Rattle.peel_gates.proofs.rooms.empty_graph as empty-graph
+use Rattle.peel_gates.proofs.rooms.empty_graph.Symbol as empty-graph-def
 use Rattle.peel_walks.proofs.loops.add_edges as add-edges
 use Rattle.peel_walks.proofs.loops.add_edges.Symbol as add-edges-def
-use Rattle.peel_steps.proofs.visiting.preload as preload
-use Rattle.peel_steps.proofs.visiting.preload.Symbol as preload-def
+use Rattle.peel_turns.proofs.visiting.preload as preload
+use Rattle.peel_turns.proofs.visiting.preload.Symbol as preload-def
 use Rattle.peel_walks.proofs.loops.peel as peel
 use Rattle.peel_walks.proofs.loops.peel.Symbol as peel-def
 use Rattle.areas.proofs.zero.zero_words as zero-words
@@ -38,8 +38,8 @@ use Rattle.peel_walks.proofs.loops.assign as assign
 use Rattle.peel_walks.proofs.loops.assign.Symbol as assign-def
 use Rattle.peel_parts.proofs.parts.fill_cells as fill-cells
 use Rattle.peel_parts.proofs.parts.fill_cells.Symbol as fill-cells-def
-use Rattle.peel_steps.proofs.ends.ended as ended
-use Rattle.peel_steps.proofs.ends.ended.Symbol as ended-def
+use Rattle.peel_gates.proofs.ends.ended as ended
+use Rattle.peel_gates.proofs.ends.ended.Symbol as ended-def
 use Rattle.peel_parts.proofs.parts.peel_edges as peel-edges
 use Rattle.peel_parts.proofs.parts.peel_edges.Symbol as peel-edges-def
 use Rattle.peel_parts.proofs.parts.settle as settle

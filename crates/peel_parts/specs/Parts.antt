@@ -14,9 +14,10 @@ use Rattle.peel_rules.specs.Edges.{Valid}
 use Rattle.peel_rules.specs.Peel.{peel, fill, answer, crowdedVertex}
 use Rattle.peel_rules.specs.Machine.{build, empty}
 use Rattle.peel_rules.specs.Calls.{PeelCall, ran}
-use Rattle.peel_steps.specs.declared.ends.Peeling.{Peeling}
-use Rattle.peel_steps.specs.Pictures.{graphIn, peeledIn, numbersRoom, bytesRoom}
-use Rattle.peel_steps.specs.Ends.{Lent}
+use Rattle.peel_gates.specs.declared.ends.Peeling.{Peeling}
+use Rattle.peel_steps.specs.Pictures.{graphIn, peeledIn}
+use Rattle.peel_gates.specs.Rooms.{numbersRoom, bytesRoom}
+use Rattle.peel_gates.specs.Rooms.{Lent}
 use Rattle.peel_walks.specs.Walks.{Fillable}
 
 -- the graph is made in the first n cells of both areas

@@ -15,10 +15,10 @@ use Rattle.peel_rules.specs.Peel.{Outcome, solved, stuck, answer, crowdedVertex
 use Rattle.peel_rules.specs.Report.{noReport}
 use Rattle.peel_rules.specs.Calls.{ended, ran}
 use Rattle.peel_rules.proofs.PeelCrowd.{crowded-lowest}
-use Rattle.peel_steps.specs.declared.ends.Peeling.{Peeling}
-use Rattle.peel_steps.specs.Pictures.{numbersRoom, bytesRoom}
-use Rattle.peel_steps.specs.Ends.{Lent, Left}
-use Rattle.peel_steps.proofs.PictureLaws.{drop-agrees}
+use Rattle.peel_gates.specs.declared.ends.Peeling.{Peeling}
+use Rattle.peel_gates.specs.Rooms.{numbersRoom, bytesRoom}
+use Rattle.peel_gates.specs.Rooms.{Lent, Left}
+use Rattle.peel_turns.proofs.PictureLaws.{drop-agrees}
 use Rattle.peel_walks.specs.Walks.{Begins}
 use Rattle.peel_parts.specs.Parts.{Built, Says, ranSays, GraphAsks, Past}
 use Rattle.peel_runs.specs.Runs.{BuiltAsks, Admitted, Leaves, runSays, runCall}

@@ -6,23 +6,23 @@ use denote.Plain.{UInt}
 use denote.Struct.Laws as LL
 use Rattle.answers.specs.declared.Answer.the-variants.{CrowdedVertex}
 use Rattle.peel_rules.specs.Report.{noReport}
-use Rattle.peel_steps.specs.Ends.{Lent, Left}
+use Rattle.peel_gates.specs.Rooms.{Lent, Left}
 use Rattle.peel_walks.specs.Walks.{Begins}
 use Rattle.peel_runs.specs.Runs.{Admitted, BuiltAsks, runSays}
 use Rattle.peel_parts.specs.Parts.{GraphAsks, Past, Built, Says, ranSays}
 use Rattle.peeling.specs.declared.numbers.Edge.{Edge}
 use Rattle.peeling.proofs.numbers.Edge as Edgeᴿ
 use Rattle.walk_rules.proofs.Lent.{val, at, Shr, Mut, Lent as LentFor, Kept, lends, backs}
-use Rattle.peel_steps.specs.declared.ends.Peeling.{Peeling}
-use Rattle.peel_steps.proofs.ends.Peeling as Peelingᴿ
-use Rattle.peel_steps.proofs.ends.Peeling.Laws as Peelingᴸ
+use Rattle.peel_gates.specs.declared.ends.Peeling.{Peeling}
+use Rattle.peel_gates.proofs.ends.Peeling as Peelingᴿ
+use Rattle.peel_gates.proofs.ends.Peeling.Laws as Peelingᴸ
 use Rattle.peel_parts.proofs.parts.build_graph as build-graph
 use Rattle.peel_parts.proofs.parts.build_graph.Symbol as build-graph-def
-use Rattle.peel_steps.proofs.ends.crowded as crowded
-use Rattle.peel_steps.proofs.ends.crowded.Symbol as crowded-def
-use Rattle.peel_steps.proofs.ends.ended as ended
-use Rattle.peel_steps.proofs.ends.clear_room as clear-room
-use Rattle.peel_steps.proofs.ends.clear_room.Symbol as clear-room-def
+use Rattle.peel_gates.proofs.ends.crowded as crowded
+use Rattle.peel_gates.proofs.ends.crowded.Symbol as crowded-def
+use Rattle.peel_gates.proofs.ends.ended as ended
+use Rattle.peel_gates.proofs.rooms.clear_room as clear-room
+use Rattle.peel_gates.proofs.rooms.clear_room.Symbol as clear-room-def
 use Rattle.peel_parts.proofs.parts.peel_and_fill as peel-and-fill
 use Rattle.peel_parts.proofs.parts.peel_and_fill.Symbol as peel-and-fill-def
 use Rattle.peel_runs.proofs.run.run_graph as run-graph

@@ -10,9 +10,10 @@ use Rattle.peel_rules.specs.Edges.{Valid}
 use Rattle.peel_rules.specs.Peel.{answer, crowdedVertex}
 use Rattle.peel_rules.specs.Machine.{build, empty}
 use Rattle.peel_rules.specs.Calls.{PeelCall, admitted}
-use Rattle.peel_steps.specs.declared.ends.Peeling.{Peeling}
-use Rattle.peel_steps.specs.Pictures.{graphIn, numbersRoom, bytesRoom}
-use Rattle.peel_steps.specs.Ends.{Lent}
+use Rattle.peel_gates.specs.declared.ends.Peeling.{Peeling}
+use Rattle.peel_steps.specs.Pictures.{graphIn}
+use Rattle.peel_gates.specs.Rooms.{numbersRoom, bytesRoom}
+use Rattle.peel_gates.specs.Rooms.{Lent}
 
 -- the graph is made, and the lowest vertex that lies on a crowd of edges is known
 pub record BuiltAsks (high : Bool) (n m low : ℕ) (T : List Edge) (cells numbers bytes : List ℕ) : Type 0 where

@@ -1,11 +1,11 @@
 // The run over a table whose edges keep their rule.
 ghost use Rattle.peel_runs.specs.Runs.{BuiltAsks, Admitted, Leaves, runSays, runCall};
 ghost use Rattle.peel_parts.specs.Parts.{Past, Says};
+use peel_gates::ends::Peeling;
+use peel_gates::ends::crowded;
+use peel_gates::rooms::clear_room;
 use peel_parts::parts::build_graph;
 use peel_parts::parts::peel_and_fill;
-use peel_steps::ends::Peeling;
-use peel_steps::ends::clear_room;
-use peel_steps::ends::crowded;
 use peeling::numbers::Edge;
 
 // The run once the graph is made.

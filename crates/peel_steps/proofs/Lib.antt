@@ -1,5 +1,3 @@
 pub mod SideLaws
-pub mod PictureLaws
 pub mod BuildLaws
-pub mod StepLaws
-pub mod StackLaws
+pub mod ReadLaws

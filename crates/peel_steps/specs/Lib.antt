@@ -1,4 +1,1 @@
 pub mod Pictures
-pub mod Steps
-pub mod Gates
-pub mod Ends

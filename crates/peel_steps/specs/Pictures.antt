@@ -1,9 +1,8 @@
 -- What the peelers' areas hold: the graph, then the stack, then the record of peeled edges.
 use mathlib.Core.List.{List, [], _∷_}
 use mathlib.Core.Bool.{Bool, true, false}
-use Prim.Native.Nat.{ℕ, zero, suc, _+_, _-_, _%_}
-use lib.ListN.{getD, set, take}
-use Rattle.answers.specs.Sizes.{peelHighNumbers, peelHighBytes, peelLowNumbers, peelLowBytes}
+use Prim.Native.Nat.{ℕ, zero, suc, _+_, _-_, _%_, _≤_, _<_}
+use lib.ListN.{length, getD, set, take}
 use Rattle.peeling.specs.declared.numbers.Edge.{Edge}
 use Rattle.peeling.specs.Graph.{Graph, graphOf}
 use Rattle.peel_rules.specs.Peel.{Peeled}
@@ -52,12 +51,16 @@ peeledIn high T n zero numbers bytes = []
 peeledIn high T n (suc k) numbers bytes =
     record { edge = getD T (numberAt high n k numbers) noEdge; side = sideFrom (sideNoAt high n k numbers bytes) } ∷ peeledIn high T n k numbers bytes
 
--- ---- rooms
+-- ---- reading the record
 
-abbrev pub numbersRoom : Bool → ℕ → ℕ → ℕ
-numbersRoom true n m = peelHighNumbers n m
-numbersRoom false n m = peelLowNumbers n
+-- the record of the vertex that was kept can be read
+pub record Rereads (n k : ℕ) (numbers bytes : List ℕ) : Type 0 where
+  pub k< : k < n
+  pub room : n + n ≤ length numbers
+  pub v-n : getD numbers (n + n - (k + 1)) 0 < length numbers
+  pub v-b : getD numbers (n + n - (k + 1)) 0 < length bytes
 
-abbrev pub bytesRoom : Bool → ℕ → ℕ → ℕ
-bytesRoom true n m = peelHighBytes n m
-bytesRoom false n m = peelLowBytes n
+-- the record of the k-th peeled edge can be read
+abbrev pub Reads : Bool → ℕ → ℕ → List ℕ → List ℕ → Type 0
+Reads true n k numbers bytes = (n + n + k < length numbers) × (n + k < length bytes)
+Reads false n k numbers bytes = Rereads n k numbers bytes

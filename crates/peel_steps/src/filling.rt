@@ -5,7 +5,7 @@ ghost use Prim.Native.Nat.{_+_, _≤_, _<_};
 ghost use lib.ListN.{length};
 ghost use Rattle.answers.specs.Sizes.{maxVariables, maxEquations};
 ghost use Rattle.peel_steps.specs.Pictures.{numberAt, sideNoAt};
-ghost use Rattle.peel_steps.specs.Steps.{Reads, Rereads};
+ghost use Rattle.peel_steps.specs.Pictures.{Reads, Rereads};
 ghost use Rattle.peel_rules.specs.Edges.{Valid};
 ghost use Rattle.peel_rules.specs.Peel.{fillOne};
 ghost use Rattle.peel_rules.specs.Machine.{sideFrom};

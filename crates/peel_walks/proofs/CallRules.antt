@@ -10,30 +10,31 @@ use Rattle.peel_rules.specs.Edges.{Valid, isValid}
 use Rattle.peel_rules.specs.Peel.{fillOne}
 use Rattle.peel_rules.specs.Machine.{noEdge, sideFrom, notedEdge, addEdge}
 use Rattle.peel_steps.specs.Pictures.{numberAt, sideNoAt}
-use Rattle.peel_steps.specs.Steps.{Turns, Turned, Reads}
+use Rattle.peel_turns.specs.Steps.{Turns, Turned}
+use Rattle.peel_steps.specs.Pictures.{Reads}
 use Rattle.peeling.specs.declared.numbers.Edge.{Edge}
 use Rattle.peeling.proofs.numbers.Edge as Edgeᴿ
 use Rattle.peeling.proofs.numbers.Edge.Laws as Edgeᴸ
-use Rattle.peel_steps.specs.declared.visiting.Heads.{Heads}
-use Rattle.peel_steps.proofs.visiting.Heads as Headsᴿ
-use Rattle.peel_steps.proofs.visiting.Heads.Laws as Headsᴸ
+use Rattle.peel_turns.specs.declared.visiting.Heads.{Heads}
+use Rattle.peel_turns.proofs.visiting.Heads as Headsᴿ
+use Rattle.peel_turns.proofs.visiting.Heads.Laws as Headsᴸ
 use Rattle.peel_steps.specs.declared.filling.PeeledAt.{PeeledAt}
 use Rattle.peel_steps.proofs.filling.PeeledAt as PeeledAtᴿ
 use Rattle.peel_steps.proofs.filling.PeeledAt.Laws as PeeledAtᴸ
 use Rattle.walk_rules.proofs.Lent.{val, at, Shr, Mut, Lent as LentFor, Kept, lends, backs}
 use Rattle.peel_walks.proofs.table.edge_at as edge-at
 use Rattle.peel_walks.proofs.table.edge_at.Symbol as edge-at-def
-use Rattle.peel_steps.proofs.rules.keeps_rule as keeps-rule
-use Rattle.peel_steps.proofs.rules.keeps_rule.Symbol as keeps-rule-def
+use Rattle.peel_gates.proofs.rules.keeps_rule as keeps-rule
+use Rattle.peel_gates.proofs.rules.keeps_rule.Symbol as keeps-rule-def
 use Rattle.peel_steps.proofs.building.add_edge as add-edge
 use Rattle.peel_steps.proofs.building.add_edge.Symbol as add-edge-def
-use Rattle.peel_steps.proofs.visiting.turn as turn
-use Rattle.peel_steps.proofs.visiting.turn.Symbol as turn-def
+use Rattle.peel_turns.proofs.visiting.turn as turn
+use Rattle.peel_turns.proofs.visiting.turn.Symbol as turn-def
 use Rattle.peel_steps.proofs.filling.peeled_at as peeled-at
 use Rattle.peel_steps.proofs.filling.peeled_at.Symbol as peeled-at-def
 use Rattle.peel_steps.proofs.filling.fill_one as fill-one
 use Rattle.peel_steps.proofs.filling.fill_one.Symbol as fill-one-def
-use Rattle.peel_steps.proofs.ends.ended as ended
+use Rattle.peel_gates.proofs.ends.ended as ended
 
 module _ {M : Type 1} (𝓤 : URA M) (H : Heap 𝓤) (A : Atoms 𝓤) (at-mem : Memory → SProp 𝓤) (run : Routine → Fun 𝓤) where
   abbrev pub EdgeAtᶜ : Contract 𝓤

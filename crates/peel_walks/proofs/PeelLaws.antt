@@ -25,11 +25,13 @@ use Rattle.peel_rules.proofs.PeelXor.{Numbered, edgesN, firstN, withoutN, edges
 use Rattle.peel_rules.proofs.PeelRefines.{Rel, Sim, TakeFacts, pivotOf, Kept, side-small, xor-v, busy, side-v, edge-v, lower-eq, rel-after, take-facts, idle-degree}
 use Rattle.peel_rules.proofs.PeelAnswers.{sim-start}
 use Rattle.peel_rules.proofs.PeelRoom.{both-fit}
-use Rattle.peel_steps.specs.declared.visiting.Heads.{Heads}
-use Rattle.peel_steps.specs.Pictures.{graphIn, rising, falling, stackIn, keptNumbers, keptBytes, numberAt, peeledIn, numbersRoom, bytesRoom}
-use Rattle.peel_steps.specs.Steps.{Holds, TakenOff, Keeps, topOf, nextOf, Busy, Turns, Turned, Reads}
+use Rattle.peel_turns.specs.declared.visiting.Heads.{Heads}
+use Rattle.peel_steps.specs.Pictures.{graphIn, rising, falling, stackIn, keptNumbers, keptBytes, numberAt, peeledIn}
+use Rattle.peel_gates.specs.Rooms.{numbersRoom, bytesRoom}
+use Rattle.peel_turns.specs.Steps.{Holds, TakenOff, Keeps, topOf, nextOf, Busy, Turns, Turned}
+use Rattle.peel_steps.specs.Pictures.{Reads}
 use Rattle.peel_steps.proofs.SideLaws.{pivot<}
-use Rattle.peel_steps.proofs.PictureLaws.{rising-length, rising-above, falling-below, in-graph, drop-agrees}
+use Rattle.peel_turns.proofs.PictureLaws.{rising-length, rising-above, falling-below, in-graph, drop-agrees}
 use Rattle.peel_walks.specs.Walks.{PeelStarts, PeelEnds}
 
 -- ---- a vertex is popped

@@ -10,10 +10,12 @@ use Rattle.peeling.specs.declared.numbers.Edge.{Edge}
 use Rattle.peel_rules.specs.Edges.{Valid}
 use Rattle.peel_rules.specs.Peel.{peel, crowdedVertex}
 use Rattle.peel_rules.specs.Machine.{noEdge, build, empty, mones}
-use Rattle.peel_steps.specs.declared.visiting.Heads.{Heads}
-use Rattle.peel_steps.specs.Pictures.{graphIn, stackIn, numberAt, peeledIn, numbersRoom, bytesRoom}
-use Rattle.peel_steps.specs.Steps.{nextOf, Reads}
-use Rattle.peel_steps.specs.Ends.{Lent}
+use Rattle.peel_turns.specs.declared.visiting.Heads.{Heads}
+use Rattle.peel_steps.specs.Pictures.{graphIn, stackIn, numberAt, peeledIn}
+use Rattle.peel_gates.specs.Rooms.{numbersRoom, bytesRoom}
+use Rattle.peel_turns.specs.Steps.{nextOf}
+use Rattle.peel_steps.specs.Pictures.{Reads}
+use Rattle.peel_gates.specs.Rooms.{Lent}
 
 -- the edges keep their rule, and both areas have room for the graph
 pub record Begins (n : ℕ) (T : List Edge) (numbers bytes : List ℕ) : Type 0 where

@@ -10,8 +10,8 @@ use crate::table::edge_at;
 use peel_steps::building::add_edge;
 use peel_steps::filling::fill_one;
 use peel_steps::filling::peeled_at;
-use peel_steps::visiting::Heads;
-use peel_steps::visiting::turn;
+use peel_turns::visiting::Heads;
+use peel_turns::visiting::turn;
 use peeling::numbers::Edge;
 
 // Takes every edge into the graph; hands back the lowest vertex that came to its 64th incidence, or n.

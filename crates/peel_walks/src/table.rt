@@ -4,7 +4,7 @@ ghost use Prim.Native.Nat.{_<_};
 ghost use lib.ListN.{length, getD};
 ghost use Rattle.peel_rules.specs.Machine.{noEdge};
 ghost use Rattle.peel_rules.specs.Edges.{badEdge};
-use peel_steps::rules::keeps_rule;
+use peel_gates::rules::keeps_rule;
 use peeling::numbers::Edge;
 
 pub fn edge_count(edges: &[Edge]) -> usize

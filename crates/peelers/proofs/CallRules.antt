@@ -9,12 +9,12 @@ use Rattle.peel_calls.specs.Judging.{peelingCall}
 use Rattle.peeling.specs.declared.numbers.Edge.{Edge}
 use Rattle.peeling.proofs.numbers.Edge as Edgeᴿ
 use Rattle.walk_rules.proofs.Lent.{val, at, Shr, Mut, Lent as LentFor, Kept, lends, backs}
-use Rattle.peel_steps.specs.declared.ends.Peeling.{Peeling}
-use Rattle.peel_steps.proofs.ends.Peeling as Peelingᴿ
-use Rattle.peel_steps.proofs.ends.Peeling.Laws as Peelingᴸ
+use Rattle.peel_gates.specs.declared.ends.Peeling.{Peeling}
+use Rattle.peel_gates.proofs.ends.Peeling as Peelingᴿ
+use Rattle.peel_gates.proofs.ends.Peeling.Laws as Peelingᴸ
 use Rattle.peel_calls.proofs.call.peel_by_sig_vals as peel-by-sig-vals
 use Rattle.peel_calls.proofs.call.peel_by_sig_vals.Symbol as peel-by-sig-vals-def
-use Rattle.peel_steps.proofs.ends.ended as ended
+use Rattle.peel_gates.proofs.ends.ended as ended
 
 module _ {M : Type 1} (𝓤 : URA M) (H : Heap 𝓤) (A : Atoms 𝓤) (at-mem : Memory → SProp 𝓤) (run : Routine → Fun 𝓤) where
   abbrev pub PeelBySigValsᶜ : Contract 𝓤

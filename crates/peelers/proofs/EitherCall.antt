@@ -4,7 +4,7 @@ use mathlib.Core.Bool.{true, false}
 use Prim.Native.Nat.{ℕ}
 use Rattle.peeling.specs.declared.numbers.Edge.{Edge}
 use Rattle.peel_rules.specs.Calls.{peelHighCall, peelLowCall}
-use Rattle.peel_steps.specs.declared.ends.Peeling.{Peeling}
+use Rattle.peel_gates.specs.declared.ends.Peeling.{Peeling}
 use Rattle.peel_runs.specs.Runs.{Leaves}
 use Rattle.peel_calls.specs.Judging.{peelingCall}
 

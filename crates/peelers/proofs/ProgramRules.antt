@@ -9,9 +9,9 @@ use Rattle.peel_runs.specs.Runs.{Leaves}
 use Rattle.peelers.specs.Programs.{atMost256}
 use Rattle.peeling.specs.declared.numbers.Edge.{Edge}
 use Rattle.peeling.proofs.numbers.Edge as Edgeᴿ
-use Rattle.peel_steps.specs.declared.ends.Peeling.{Peeling}
-use Rattle.peel_steps.proofs.ends.Peeling as Peelingᴿ
-use Rattle.peel_steps.proofs.ends.Peeling.Laws as Peelingᴸ
+use Rattle.peel_gates.specs.declared.ends.Peeling.{Peeling}
+use Rattle.peel_gates.proofs.ends.Peeling as Peelingᴿ
+use Rattle.peel_gates.proofs.ends.Peeling.Laws as Peelingᴸ
 use Rattle.walk_rules.proofs.Lent.{val, at, Shr, Mut, Lent as LentFor, Kept, lends, backs}
 use Rattle.peelers.proofs.programs.at_most_256 as at-most-256
 use Rattle.peelers.proofs.programs.at_most_256.Symbol as at-most-256-def

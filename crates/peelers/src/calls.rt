@@ -3,7 +3,7 @@ ghost use mathlib.Core.Bool.{true, false};
 ghost use Rattle.peel_rules.specs.Calls.{peelLowCall, peelHighCall};
 ghost use Rattle.peel_runs.specs.Runs.{Leaves};
 use peel_calls::call::peel_by_sig_vals;
-use peel_steps::ends::Peeling;
+use peel_gates::ends::Peeling;
 use peeling::numbers::Edge;
 
 // Keeps the number and the side of each peeled edge.

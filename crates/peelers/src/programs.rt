@@ -6,7 +6,7 @@ ghost use Rattle.peel_runs.specs.Runs.{Leaves};
 ghost use Rattle.peelers.specs.Programs.{atMost256};
 use crate::calls::peel_by_sig_vals_high_mem;
 use crate::calls::peel_by_sig_vals_low_mem;
-use peel_steps::ends::Peeling;
+use peel_gates::ends::Peeling;
 use peeling::numbers::Edge;
 
 // No more than there are.

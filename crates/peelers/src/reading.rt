@@ -4,7 +4,7 @@ ghost use Rattle.peel_rules.specs.Calls.{lookupCall};
 ghost use Rattle.peelers.specs.Lookups.{foundOf};
 use answers::Answer;
 use answers::MAX_VARIABLES;
-use peel_steps::rules::keeps_rule;
+use peel_gates::rules::keeps_rule;
 use peeling::numbers::Edge;
 use peeling::numbers::Vertex;
 

@@ -6,9 +6,9 @@ use denote.Triple.Walked.{stay-dropped, goes-dropped}
 use Rattle.peeling.specs.declared.numbers.Edge.{Edge}
 use Rattle.peeling.proofs.numbers.Edge as Edgeᴿ
 use Rattle.peeling.proofs.numbers.Edge.Laws as Edgeᴸ
-use Rattle.peel_steps.specs.declared.ends.Peeling.{Peeling}
-use Rattle.peel_steps.proofs.ends.Peeling as Peelingᴿ
-use Rattle.peel_steps.proofs.ends.Peeling.Laws as Peelingᴸ
+use Rattle.peel_gates.specs.declared.ends.Peeling.{Peeling}
+use Rattle.peel_gates.proofs.ends.Peeling as Peelingᴿ
+use Rattle.peel_gates.proofs.ends.Peeling.Laws as Peelingᴸ
 use Rattle.walk_rules.proofs.Lent.{val, Shr, Mut}
 use Rattle.peelers.proofs.ProgramRules.{PeelBySigValsHighMemᶜ, calls-peel-by-sig-vals-high-mem}
 use Rattle.peelers.proofs.calls.peel_by_sig_vals_high_mem.Symbol as peel-def

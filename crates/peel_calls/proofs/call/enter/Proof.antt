@@ -5,16 +5,16 @@ use denote.Struct.Laws as LL
 use denote.Triple.Walked.{stay-dropped, goes-dropped}
 use Rattle.peeling.specs.declared.numbers.Edge.{Edge}
 use Rattle.peeling.proofs.numbers.Edge as Edgeᴿ
-use Rattle.peel_steps.specs.declared.ends.Peeling.{Peeling}
-use Rattle.peel_steps.proofs.ends.Peeling as Peelingᴿ
-use Rattle.peel_steps.proofs.ends.Peeling.Laws as Peelingᴸ
+use Rattle.peel_gates.specs.declared.ends.Peeling.{Peeling}
+use Rattle.peel_gates.proofs.ends.Peeling as Peelingᴿ
+use Rattle.peel_gates.proofs.ends.Peeling.Laws as Peelingᴸ
 use Rattle.walk_rules.proofs.Loops.{forks, is-true, is-false}
 use Rattle.walk_rules.proofs.Lent.{val, Shr, Mut}
 use Rattle.peel_calls.proofs.CallRules.{RunPeelerᶜ, calls-run-peeler, Refusalᶜ, calls-refusal}
 use Rattle.peel_runs.proofs.run.run_peeler.Symbol as run-peeler-def
 use Rattle.peel_runs.proofs.run.run_peeler.Met as run-peeler-thm
-use Rattle.peel_steps.proofs.rules.refusal.Symbol as refusal-def
-use Rattle.peel_steps.proofs.rules.refusal.Met as refusal-thm
+use Rattle.peel_gates.proofs.rules.refusal.Symbol as refusal-def
+use Rattle.peel_gates.proofs.rules.refusal.Met as refusal-thm
 use Rattle.peel_calls.proofs.call.enter.Key.{name as #self}
 use Rattle.peel_calls.proofs.call.enter as self
 use Rattle.peel_calls.proofs.call.enter.Statement as stated
@@ -93,4 +93,4 @@ enter-spec 𝓤 H 𝓜 𝓖 𝓡 =
     (tables 𝓤 H 𝓜 𝓡 code.env .C) (tables 𝓤 H 𝓜 𝓡 code.env .Λ) #self code.function (code.unfolded 𝓤 H 𝓜 𝓡)
     (meets 𝓤 H (𝓖 .A) (givenOf 𝓤 H 𝓜 𝓖) (𝓜 .mem) (𝓡 .run) (tablesOf 𝓤 H 𝓜 (tables 𝓤 H 𝓜 𝓡 code.env))
     (cited 𝓤 H (RunPeelerᶜ 𝓤 H (𝓖 .A) (𝓜 .mem) (𝓡 .run)) 𝓜 𝓡 code.env run-peeler-def.name run-peeler-def.routine code.calls-peel-runs·run·run-peeler (run-peeler-thm.met 𝓤 H 𝓜 𝓖 𝓡))
-    (cited 𝓤 H (Refusalᶜ 𝓤 H (𝓖 .A) (𝓜 .mem) (𝓡 .run)) 𝓜 𝓡 code.env refusal-def.name refusal-def.routine code.calls-peel-steps·rules·refusal (refusal-thm.met 𝓤 H 𝓜 𝓖 𝓡)))
+    (cited 𝓤 H (Refusalᶜ 𝓤 H (𝓖 .A) (𝓜 .mem) (𝓡 .run)) 𝓜 𝓡 code.env refusal-def.name refusal-def.routine code.calls-peel-gates·rules·refusal (refusal-thm.met 𝓤 H 𝓜 𝓖 𝓡)))

@@ -5,17 +5,17 @@ use denote.Struct.Laws as LL
 use denote.Triple.Walked.{stay-dropped, goes-dropped}
 use Rattle.peeling.specs.declared.numbers.Edge.{Edge}
 use Rattle.peeling.proofs.numbers.Edge as Edgeᴿ
-use Rattle.peel_steps.specs.declared.ends.Peeling.{Peeling}
-use Rattle.peel_steps.proofs.ends.Peeling as Peelingᴿ
-use Rattle.peel_steps.proofs.ends.Peeling.Laws as Peelingᴸ
+use Rattle.peel_gates.specs.declared.ends.Peeling.{Peeling}
+use Rattle.peel_gates.proofs.ends.Peeling as Peelingᴿ
+use Rattle.peel_gates.proofs.ends.Peeling.Laws as Peelingᴸ
 use Rattle.walk_rules.proofs.Lent.{val, Shr, Mut}
 use Rattle.peel_calls.proofs.CallRules.{EdgeCountᶜ, calls-edge-count, BadEdgeᶜ, calls-bad-edge, Opensᶜ, calls-opens, Enterᶜ, calls-enter}
 use Rattle.peel_walks.proofs.table.edge_count.Symbol as edge-count-def
 use Rattle.peel_walks.proofs.table.edge_count.Met as edge-count-thm
 use Rattle.peel_walks.proofs.table.bad_edge.Symbol as bad-edge-def
 use Rattle.peel_walks.proofs.table.bad_edge.Met as bad-edge-thm
-use Rattle.peel_steps.proofs.rules.opens.Symbol as opens-def
-use Rattle.peel_steps.proofs.rules.opens.Met as opens-thm
+use Rattle.peel_gates.proofs.rules.opens.Symbol as opens-def
+use Rattle.peel_gates.proofs.rules.opens.Met as opens-thm
 use Rattle.peel_calls.proofs.call.enter.Symbol as enter-def
 use Rattle.peel_calls.proofs.call.enter.Met as enter-thm
 use Rattle.peel_calls.proofs.call.peel_by_sig_vals.Key.{name as #self}
@@ -95,5 +95,5 @@ peel-by-sig-vals-spec 𝓤 H 𝓜 𝓖 𝓡 =
     (meets 𝓤 H (𝓖 .A) (givenOf 𝓤 H 𝓜 𝓖) (𝓜 .mem) (𝓡 .run) (tablesOf 𝓤 H 𝓜 (tables 𝓤 H 𝓜 𝓡 code.env))
     (cited 𝓤 H (EdgeCountᶜ 𝓤 H (𝓖 .A) (𝓜 .mem) (𝓡 .run)) 𝓜 𝓡 code.env edge-count-def.name edge-count-def.routine code.calls-peel-walks·table·edge-count (edge-count-thm.met 𝓤 H 𝓜 𝓖 𝓡))
     (cited 𝓤 H (BadEdgeᶜ 𝓤 H (𝓖 .A) (𝓜 .mem) (𝓡 .run)) 𝓜 𝓡 code.env bad-edge-def.name bad-edge-def.routine code.calls-peel-walks·table·bad-edge (bad-edge-thm.met 𝓤 H 𝓜 𝓖 𝓡))
-    (cited 𝓤 H (Opensᶜ 𝓤 H (𝓖 .A) (𝓜 .mem) (𝓡 .run)) 𝓜 𝓡 code.env opens-def.name opens-def.routine code.calls-peel-steps·rules·opens (opens-thm.met 𝓤 H 𝓜 𝓖 𝓡))
+    (cited 𝓤 H (Opensᶜ 𝓤 H (𝓖 .A) (𝓜 .mem) (𝓡 .run)) 𝓜 𝓡 code.env opens-def.name opens-def.routine code.calls-peel-gates·rules·opens (opens-thm.met 𝓤 H 𝓜 𝓖 𝓡))
     (cited 𝓤 H (Enterᶜ 𝓤 H (𝓖 .A) (𝓜 .mem) (𝓡 .run)) 𝓜 𝓡 code.env enter-def.name enter-def.routine code.calls-peel-calls·call·enter (enter-thm.met 𝓤 H 𝓜 𝓖 𝓡)))

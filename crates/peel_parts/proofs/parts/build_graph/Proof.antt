@@ -6,8 +6,8 @@ use Rattle.peeling.specs.declared.numbers.Edge.{Edge}
 use Rattle.peeling.proofs.numbers.Edge as Edgeᴿ
 use Rattle.walk_rules.proofs.Lent.{val, Shr, Mut}
 use Rattle.peel_parts.proofs.PartRules.{EmptyGraphᶜ, calls-empty-graph, AddEdgesᶜ, calls-add-edges}
-use Rattle.peel_steps.proofs.ends.empty_graph.Symbol as empty-graph-def
-use Rattle.peel_steps.proofs.ends.empty_graph.Met as empty-graph-thm
+use Rattle.peel_gates.proofs.rooms.empty_graph.Symbol as empty-graph-def
+use Rattle.peel_gates.proofs.rooms.empty_graph.Met as empty-graph-thm
 use Rattle.peel_walks.proofs.loops.add_edges.Symbol as add-edges-def
 use Rattle.peel_walks.proofs.loops.add_edges.Met as add-edges-thm
 use Rattle.peel_parts.proofs.parts.build_graph.Key.{name as #self}
@@ -79,5 +79,5 @@ build-graph-spec 𝓤 H 𝓜 𝓖 𝓡 =
     entered 𝓤 H (tripleOf 𝓤 H (𝓖 .A) self.signature (self.spec 𝓤 H (𝓖 .A) (𝓜 .mem) (𝓡 .run)))
     (tables 𝓤 H 𝓜 𝓡 code.env .C) (tables 𝓤 H 𝓜 𝓡 code.env .Λ) #self code.function (code.unfolded 𝓤 H 𝓜 𝓡)
     (meets 𝓤 H (𝓖 .A) (givenOf 𝓤 H 𝓜 𝓖) (𝓜 .mem) (𝓡 .run) (tablesOf 𝓤 H 𝓜 (tables 𝓤 H 𝓜 𝓡 code.env))
-    (cited 𝓤 H (EmptyGraphᶜ 𝓤 H (𝓖 .A) (𝓜 .mem) (𝓡 .run)) 𝓜 𝓡 code.env empty-graph-def.name empty-graph-def.routine code.calls-peel-steps·ends·empty-graph (empty-graph-thm.met 𝓤 H 𝓜 𝓖 𝓡))
+    (cited 𝓤 H (EmptyGraphᶜ 𝓤 H (𝓖 .A) (𝓜 .mem) (𝓡 .run)) 𝓜 𝓡 code.env empty-graph-def.name empty-graph-def.routine code.calls-peel-gates·rooms·empty-graph (empty-graph-thm.met 𝓤 H 𝓜 𝓖 𝓡))
     (cited 𝓤 H (AddEdgesᶜ 𝓤 H (𝓖 .A) (𝓜 .mem) (𝓡 .run)) 𝓜 𝓡 code.env add-edges-def.name add-edges-def.routine code.calls-peel-walks·loops·add-edges (add-edges-thm.met 𝓤 H 𝓜 𝓖 𝓡)))

@@ -5,12 +5,12 @@ use denote.Struct.Laws as LL
 use denote.Triple.Walked.{stay-dropped, goes-dropped}
 use Rattle.peeling.specs.declared.numbers.Edge.{Edge}
 use Rattle.peeling.proofs.numbers.Edge as Edgeᴿ
-use Rattle.peel_steps.proofs.visiting.Heads as Headsᴿ
-use Rattle.peel_steps.proofs.visiting.Heads.Laws as Headsᴸ
+use Rattle.peel_turns.proofs.visiting.Heads as Headsᴿ
+use Rattle.peel_turns.proofs.visiting.Heads.Laws as Headsᴸ
 use Rattle.walk_rules.proofs.Lent.{val, Shr, Mut}
 use Rattle.peel_parts.proofs.PartRules.{Preloadᶜ, calls-preload, Peelᶜ, calls-peel}
-use Rattle.peel_steps.proofs.visiting.preload.Symbol as preload-def
-use Rattle.peel_steps.proofs.visiting.preload.Met as preload-thm
+use Rattle.peel_turns.proofs.visiting.preload.Symbol as preload-def
+use Rattle.peel_turns.proofs.visiting.preload.Met as preload-thm
 use Rattle.peel_walks.proofs.loops.peel.Symbol as peel-def
 use Rattle.peel_walks.proofs.loops.peel.Met as peel-thm
 use Rattle.peel_parts.proofs.parts.peel_edges.Key.{name as #self}
@@ -82,5 +82,5 @@ peel-edges-spec 𝓤 H 𝓜 𝓖 𝓡 =
     entered 𝓤 H (tripleOf 𝓤 H (𝓖 .A) self.signature (self.spec 𝓤 H (𝓖 .A) (𝓜 .mem) (𝓡 .run)))
     (tables 𝓤 H 𝓜 𝓡 code.env .C) (tables 𝓤 H 𝓜 𝓡 code.env .Λ) #self code.function (code.unfolded 𝓤 H 𝓜 𝓡)
     (meets 𝓤 H (𝓖 .A) (givenOf 𝓤 H 𝓜 𝓖) (𝓜 .mem) (𝓡 .run) (tablesOf 𝓤 H 𝓜 (tables 𝓤 H 𝓜 𝓡 code.env))
-    (cited 𝓤 H (Preloadᶜ 𝓤 H (𝓖 .A) (𝓜 .mem) (𝓡 .run)) 𝓜 𝓡 code.env preload-def.name preload-def.routine code.calls-peel-steps·visiting·preload (preload-thm.met 𝓤 H 𝓜 𝓖 𝓡))
+    (cited 𝓤 H (Preloadᶜ 𝓤 H (𝓖 .A) (𝓜 .mem) (𝓡 .run)) 𝓜 𝓡 code.env preload-def.name preload-def.routine code.calls-peel-turns·visiting·preload (preload-thm.met 𝓤 H 𝓜 𝓖 𝓡))
     (cited 𝓤 H (Peelᶜ 𝓤 H (𝓖 .A) (𝓜 .mem) (𝓡 .run)) 𝓜 𝓡 code.env peel-def.name peel-def.routine code.calls-peel-walks·loops·peel (peel-thm.met 𝓤 H 𝓜 𝓖 𝓡)))

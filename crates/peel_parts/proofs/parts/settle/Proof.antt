@@ -5,15 +5,15 @@ use denote.Struct.Laws as LL
 use denote.Triple.Walked.{stay-dropped, goes-dropped}
 use Rattle.peeling.specs.declared.numbers.Edge.{Edge}
 use Rattle.peeling.proofs.numbers.Edge as Edgeᴿ
-use Rattle.peel_steps.specs.declared.ends.Peeling.{Peeling}
-use Rattle.peel_steps.proofs.ends.Peeling as Peelingᴿ
-use Rattle.peel_steps.proofs.ends.Peeling.Laws as Peelingᴸ
+use Rattle.peel_gates.specs.declared.ends.Peeling.{Peeling}
+use Rattle.peel_gates.proofs.ends.Peeling as Peelingᴿ
+use Rattle.peel_gates.proofs.ends.Peeling.Laws as Peelingᴸ
 use Rattle.walk_rules.proofs.Lent.{val, Shr, Mut}
 use Rattle.peel_parts.proofs.PartRules.{FillCellsᶜ, calls-fill-cells, Endedᶜ, calls-ended}
 use Rattle.peel_parts.proofs.parts.fill_cells.Symbol as fill-cells-def
 use Rattle.peel_parts.proofs.parts.fill_cells.Met as fill-cells-thm
-use Rattle.peel_steps.proofs.ends.ended.Symbol as ended-def
-use Rattle.peel_steps.proofs.ends.ended.Met as ended-thm
+use Rattle.peel_gates.proofs.ends.ended.Symbol as ended-def
+use Rattle.peel_gates.proofs.ends.ended.Met as ended-thm
 use Rattle.peel_parts.proofs.parts.settle.Key.{name as #self}
 use Rattle.peel_parts.proofs.parts.settle as self
 use Rattle.peel_parts.proofs.parts.settle.Statement as stated
@@ -77,4 +77,4 @@ settle-spec 𝓤 H 𝓜 𝓖 𝓡 =
     (tables 𝓤 H 𝓜 𝓡 code.env .C) (tables 𝓤 H 𝓜 𝓡 code.env .Λ) #self code.function (code.unfolded 𝓤 H 𝓜 𝓡)
     (meets 𝓤 H (𝓖 .A) (givenOf 𝓤 H 𝓜 𝓖) (𝓜 .mem) (𝓡 .run) (tablesOf 𝓤 H 𝓜 (tables 𝓤 H 𝓜 𝓡 code.env))
     (cited 𝓤 H (FillCellsᶜ 𝓤 H (𝓖 .A) (𝓜 .mem) (𝓡 .run)) 𝓜 𝓡 code.env fill-cells-def.name fill-cells-def.routine code.calls-peel-parts·parts·fill-cells (fill-cells-thm.met 𝓤 H 𝓜 𝓖 𝓡))
-    (cited 𝓤 H (Endedᶜ 𝓤 H (𝓖 .A) (𝓜 .mem) (𝓡 .run)) 𝓜 𝓡 code.env ended-def.name ended-def.routine code.calls-peel-steps·ends·ended (ended-thm.met 𝓤 H 𝓜 𝓖 𝓡)))
+    (cited 𝓤 H (Endedᶜ 𝓤 H (𝓖 .A) (𝓜 .mem) (𝓡 .run)) 𝓜 𝓡 code.env ended-def.name ended-def.routine code.calls-peel-gates·ends·ended (ended-thm.met 𝓤 H 𝓜 𝓖 𝓡)))

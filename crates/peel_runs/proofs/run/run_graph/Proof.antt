@@ -5,14 +5,14 @@ use denote.Struct.Laws as LL
 use denote.Triple.Walked.{stay-dropped, goes-dropped}
 use Rattle.peeling.specs.declared.numbers.Edge.{Edge}
 use Rattle.peeling.proofs.numbers.Edge as Edgeᴿ
-use Rattle.peel_steps.specs.declared.ends.Peeling.{Peeling}
-use Rattle.peel_steps.proofs.ends.Peeling as Peelingᴿ
-use Rattle.peel_steps.proofs.ends.Peeling.Laws as Peelingᴸ
+use Rattle.peel_gates.specs.declared.ends.Peeling.{Peeling}
+use Rattle.peel_gates.proofs.ends.Peeling as Peelingᴿ
+use Rattle.peel_gates.proofs.ends.Peeling.Laws as Peelingᴸ
 use Rattle.walk_rules.proofs.Loops.{forks}
 use Rattle.walk_rules.proofs.Lent.{val, Shr, Mut}
 use Rattle.peel_runs.proofs.RunRules.{Crowdedᶜ, calls-crowded, PeelAndFillᶜ, calls-peel-and-fill}
-use Rattle.peel_steps.proofs.ends.crowded.Symbol as crowded-def
-use Rattle.peel_steps.proofs.ends.crowded.Met as crowded-thm
+use Rattle.peel_gates.proofs.ends.crowded.Symbol as crowded-def
+use Rattle.peel_gates.proofs.ends.crowded.Met as crowded-thm
 use Rattle.peel_parts.proofs.parts.peel_and_fill.Symbol as peel-and-fill-def
 use Rattle.peel_parts.proofs.parts.peel_and_fill.Met as peel-and-fill-thm
 use Rattle.peel_runs.proofs.run.run_graph.Key.{name as #self}
@@ -89,5 +89,5 @@ run-graph-spec 𝓤 H 𝓜 𝓖 𝓡 =
     entered 𝓤 H (tripleOf 𝓤 H (𝓖 .A) self.signature (self.spec 𝓤 H (𝓖 .A) (𝓜 .mem) (𝓡 .run)))
     (tables 𝓤 H 𝓜 𝓡 code.env .C) (tables 𝓤 H 𝓜 𝓡 code.env .Λ) #self code.function (code.unfolded 𝓤 H 𝓜 𝓡)
     (meets 𝓤 H (𝓖 .A) (givenOf 𝓤 H 𝓜 𝓖) (𝓜 .mem) (𝓡 .run) (tablesOf 𝓤 H 𝓜 (tables 𝓤 H 𝓜 𝓡 code.env))
-    (cited 𝓤 H (Crowdedᶜ 𝓤 H (𝓖 .A) (𝓜 .mem) (𝓡 .run)) 𝓜 𝓡 code.env crowded-def.name crowded-def.routine code.calls-peel-steps·ends·crowded (crowded-thm.met 𝓤 H 𝓜 𝓖 𝓡))
+    (cited 𝓤 H (Crowdedᶜ 𝓤 H (𝓖 .A) (𝓜 .mem) (𝓡 .run)) 𝓜 𝓡 code.env crowded-def.name crowded-def.routine code.calls-peel-gates·ends·crowded (crowded-thm.met 𝓤 H 𝓜 𝓖 𝓡))
     (cited 𝓤 H (PeelAndFillᶜ 𝓤 H (𝓖 .A) (𝓜 .mem) (𝓡 .run)) 𝓜 𝓡 code.env peel-and-fill-def.name peel-and-fill-def.routine code.calls-peel-parts·parts·peel-and-fill (peel-and-fill-thm.met 𝓤 H 𝓜 𝓖 𝓡)))

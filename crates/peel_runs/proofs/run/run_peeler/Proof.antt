@@ -5,15 +5,15 @@ use denote.Struct.Laws as LL
 use denote.Triple.Walked.{stay-dropped, goes-dropped}
 use Rattle.peeling.specs.declared.numbers.Edge.{Edge}
 use Rattle.peeling.proofs.numbers.Edge as Edgeᴿ
-use Rattle.peel_steps.specs.declared.ends.Peeling.{Peeling}
-use Rattle.peel_steps.proofs.ends.Peeling as Peelingᴿ
-use Rattle.peel_steps.proofs.ends.Peeling.Laws as Peelingᴸ
+use Rattle.peel_gates.specs.declared.ends.Peeling.{Peeling}
+use Rattle.peel_gates.proofs.ends.Peeling as Peelingᴿ
+use Rattle.peel_gates.proofs.ends.Peeling.Laws as Peelingᴸ
 use Rattle.walk_rules.proofs.Lent.{val, Shr, Mut}
 use Rattle.peel_runs.proofs.RunRules.{RunEdgesᶜ, calls-run-edges, ClearRoomᶜ, calls-clear-room}
 use Rattle.peel_runs.proofs.run.run_edges.Symbol as run-edges-def
 use Rattle.peel_runs.proofs.run.run_edges.Met as run-edges-thm
-use Rattle.peel_steps.proofs.ends.clear_room.Symbol as clear-room-def
-use Rattle.peel_steps.proofs.ends.clear_room.Met as clear-room-thm
+use Rattle.peel_gates.proofs.rooms.clear_room.Symbol as clear-room-def
+use Rattle.peel_gates.proofs.rooms.clear_room.Met as clear-room-thm
 use Rattle.peel_runs.proofs.run.run_peeler.Key.{name as #self}
 use Rattle.peel_runs.proofs.run.run_peeler as self
 use Rattle.peel_runs.proofs.run.run_peeler.Statement as stated
@@ -86,4 +86,4 @@ run-peeler-spec 𝓤 H 𝓜 𝓖 𝓡 =
     (tables 𝓤 H 𝓜 𝓡 code.env .C) (tables 𝓤 H 𝓜 𝓡 code.env .Λ) #self code.function (code.unfolded 𝓤 H 𝓜 𝓡)
     (meets 𝓤 H (𝓖 .A) (givenOf 𝓤 H 𝓜 𝓖) (𝓜 .mem) (𝓡 .run) (tablesOf 𝓤 H 𝓜 (tables 𝓤 H 𝓜 𝓡 code.env))
     (cited 𝓤 H (RunEdgesᶜ 𝓤 H (𝓖 .A) (𝓜 .mem) (𝓡 .run)) 𝓜 𝓡 code.env run-edges-def.name run-edges-def.routine code.calls-peel-runs·run·run-edges (run-edges-thm.met 𝓤 H 𝓜 𝓖 𝓡))
-    (cited 𝓤 H (ClearRoomᶜ 𝓤 H (𝓖 .A) (𝓜 .mem) (𝓡 .run)) 𝓜 𝓡 code.env clear-room-def.name clear-room-def.routine code.calls-peel-steps·ends·clear-room (clear-room-thm.met 𝓤 H 𝓜 𝓖 𝓡)))
+    (cited 𝓤 H (ClearRoomᶜ 𝓤 H (𝓖 .A) (𝓜 .mem) (𝓡 .run)) 𝓜 𝓡 code.env clear-room-def.name clear-room-def.routine code.calls-peel-gates·rooms·clear-room (clear-room-thm.met 𝓤 H 𝓜 𝓖 𝓡)))

@@ -1,4 +1,4 @@
-use Rattle.peel_steps.proofs.StepLaws.{zeroed-cleared, keeps-high, keeps-low, reads-high, reads-low, next-none, next-idle, next-busy, turn-v, skipped-turn, is-busy, busy-keeps, turn-takes, turn-tops, took-turn, long₂, long-b₂}
+use Rattle.peel_steps.proofs.ReadLaws.{reads-high, reads-low}
 use mathlib.Core.Path.{refl, ap, sym, _∙_}
 use borrow.Author.Needs.{needs}
 use native.Mathlib.Omega.{arith}

@@ -1,4 +1,4 @@
-use Rattle.peel_steps.proofs.SideLaws.{at-zero, not-zero, pivot-one, pivot-two, below-two, from-two, pivot-in, first-in, second-in, filled}
+use Rattle.peel_steps.proofs.SideLaws.{at-zero, pivot-one, pivot-two}
 use mathlib.Core.Path.{sym}
 use borrow.Author.Needs.{needs}
 use native.Mathlib.Omega.{arith}

@@ -26,7 +26,7 @@ use Rattle.peel_rules.specs.Edges.{Valid}
 use Rattle.peel_rules.specs.Peel.{fill}
 use Rattle.peel_rules.specs.Machine.{noEdge}
 use Rattle.peel_steps.specs.Pictures.{numberAt, peeledIn}
-use Rattle.peel_steps.specs.Steps.{Reads}
+use Rattle.peel_steps.specs.Pictures.{Reads}
 use Rattle.peel_walks.specs.Walks.{Fillable}
 use Rattle.peel_walks.proofs.TableLaws.{Filling, filling-begin, filling-turn, filling-end}
 

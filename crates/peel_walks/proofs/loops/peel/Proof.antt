@@ -6,16 +6,16 @@ use denote.Triple.Walked.{stay-dropped, goes-dropped}
 use Rattle.peeling.specs.declared.numbers.Edge.{Edge}
 use Rattle.peeling.proofs.numbers.Edge as Edgeᴿ
 use Rattle.peeling.proofs.numbers.Edge.Laws as Edgeᴸ
-use Rattle.peel_steps.specs.declared.visiting.Heads.{Heads}
-use Rattle.peel_steps.proofs.visiting.Heads as Headsᴿ
-use Rattle.peel_steps.proofs.visiting.Heads.Laws as Headsᴸ
+use Rattle.peel_turns.specs.declared.visiting.Heads.{Heads}
+use Rattle.peel_turns.proofs.visiting.Heads as Headsᴿ
+use Rattle.peel_turns.proofs.visiting.Heads.Laws as Headsᴸ
 use Rattle.walk_rules.proofs.Loops.{tests, while-then, falls}
 use Rattle.walk_rules.proofs.Lent.{val, Shr, Mut}
 use Rattle.peel_walks.proofs.CallRules.{EdgeAtᶜ, calls-edge-at, Turnᶜ, calls-turn}
 use Rattle.peel_walks.proofs.table.edge_at.Symbol as edge-at-def
 use Rattle.peel_walks.proofs.table.edge_at.Met as edge-at-thm
-use Rattle.peel_steps.proofs.visiting.turn.Symbol as turn-def
-use Rattle.peel_steps.proofs.visiting.turn.Met as turn-thm
+use Rattle.peel_turns.proofs.visiting.turn.Symbol as turn-def
+use Rattle.peel_turns.proofs.visiting.turn.Met as turn-thm
 use Rattle.peel_walks.proofs.loops.peel.Key.{name as #self}
 use Rattle.peel_walks.proofs.loops.peel as self
 use Rattle.peel_walks.proofs.loops.peel.Statement as stated
@@ -115,4 +115,4 @@ peel-spec 𝓤 H 𝓜 𝓖 𝓡 =
     (tables 𝓤 H 𝓜 𝓡 code.env .C) (tables 𝓤 H 𝓜 𝓡 code.env .Λ) #self code.function (code.unfolded 𝓤 H 𝓜 𝓡)
     (meets 𝓤 H (𝓖 .A) (givenOf 𝓤 H 𝓜 𝓖) (𝓜 .mem) (𝓡 .run) (tablesOf 𝓤 H 𝓜 (tables 𝓤 H 𝓜 𝓡 code.env))
     (cited 𝓤 H (EdgeAtᶜ 𝓤 H (𝓖 .A) (𝓜 .mem) (𝓡 .run)) 𝓜 𝓡 code.env edge-at-def.name edge-at-def.routine code.calls-peel-walks·table·edge-at (edge-at-thm.met 𝓤 H 𝓜 𝓖 𝓡))
-    (cited 𝓤 H (Turnᶜ 𝓤 H (𝓖 .A) (𝓜 .mem) (𝓡 .run)) 𝓜 𝓡 code.env turn-def.name turn-def.routine code.calls-peel-steps·visiting·turn (turn-thm.met 𝓤 H 𝓜 𝓖 𝓡)))
+    (cited 𝓤 H (Turnᶜ 𝓤 H (𝓖 .A) (𝓜 .mem) (𝓡 .run)) 𝓜 𝓡 code.env turn-def.name turn-def.routine code.calls-peel-turns·visiting·turn (turn-thm.met 𝓤 H 𝓜 𝓖 𝓡)))

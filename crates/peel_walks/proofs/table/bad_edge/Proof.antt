@@ -11,8 +11,8 @@ use Rattle.walk_rules.proofs.Lent.{val, Shr}
 use Rattle.peel_walks.proofs.CallRules.{EdgeAtᶜ, calls-edge-at, KeepsRuleᶜ, calls-keeps-rule}
 use Rattle.peel_walks.proofs.table.edge_at.Symbol as edge-at-def
 use Rattle.peel_walks.proofs.table.edge_at.Met as edge-at-thm
-use Rattle.peel_steps.proofs.rules.keeps_rule.Symbol as keeps-rule-def
-use Rattle.peel_steps.proofs.rules.keeps_rule.Met as keeps-rule-thm
+use Rattle.peel_gates.proofs.rules.keeps_rule.Symbol as keeps-rule-def
+use Rattle.peel_gates.proofs.rules.keeps_rule.Met as keeps-rule-thm
 use Rattle.peel_walks.proofs.table.bad_edge.Key.{name as #self}
 use Rattle.peel_walks.proofs.table.bad_edge as self
 use Rattle.peel_walks.proofs.table.bad_edge.Statement as stated
@@ -120,4 +120,4 @@ bad-edge-spec 𝓤 H 𝓜 𝓖 𝓡 =
     (tables 𝓤 H 𝓜 𝓡 code.env .C) (tables 𝓤 H 𝓜 𝓡 code.env .Λ) #self code.function (code.unfolded 𝓤 H 𝓜 𝓡)
     (meets 𝓤 H (𝓖 .A) (givenOf 𝓤 H 𝓜 𝓖) (𝓜 .mem) (𝓡 .run) (tablesOf 𝓤 H 𝓜 (tables 𝓤 H 𝓜 𝓡 code.env))
     (cited 𝓤 H (EdgeAtᶜ 𝓤 H (𝓖 .A) (𝓜 .mem) (𝓡 .run)) 𝓜 𝓡 code.env edge-at-def.name edge-at-def.routine code.calls-peel-walks·table·edge-at (edge-at-thm.met 𝓤 H 𝓜 𝓖 𝓡))
-    (cited 𝓤 H (KeepsRuleᶜ 𝓤 H (𝓖 .A) (𝓜 .mem) (𝓡 .run)) 𝓜 𝓡 code.env keeps-rule-def.name keeps-rule-def.routine code.calls-peel-steps·rules·keeps-rule (keeps-rule-thm.met 𝓤 H 𝓜 𝓖 𝓡)))
+    (cited 𝓤 H (KeepsRuleᶜ 𝓤 H (𝓖 .A) (𝓜 .mem) (𝓡 .run)) 𝓜 𝓡 code.env keeps-rule-def.name keeps-rule-def.routine code.calls-peel-gates·rules·keeps-rule (keeps-rule-thm.met 𝓤 H 𝓜 𝓖 𝓡)))

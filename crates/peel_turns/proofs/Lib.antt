@@ -1,0 +1,3 @@
+pub mod PictureLaws
+pub mod StepLaws
+pub mod StackLaws
