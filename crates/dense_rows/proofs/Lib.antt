@@ -3,10 +3,7 @@ pub mod ColumnLaws
 pub mod StepLaws
 pub mod SearchLaws
 pub mod HeldLaws
-pub mod AreaSteps
 pub mod BitTest
 pub mod Searching
-pub mod Xoring
-pub mod Clearing
 pub mod SetBits
 pub mod Emptiness

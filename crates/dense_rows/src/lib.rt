@@ -1,7 +1,6 @@
-// Rows of bits in lent words: the pivot search, and rows that change places or are XORed from a word on.
+// Rows of bits in lent words: whether they fit, the pivot search, and their value.
 pub mod fits;
 pub mod search;
-pub mod steps;
 pub mod values;
 
 // The row at which the pivot search ended, if one has the column.

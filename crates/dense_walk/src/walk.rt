@@ -8,7 +8,7 @@ ghost use Rattle.dense_walk.specs.Eliminate.{residue};
 ghost use Rattle.dense_walk.specs.Areas.{Eliminated};
 use dense_rows::Pivot;
 use dense_rows::search::find_pivot;
-use dense_rows::steps::take_pivot;
+use dense_steps::take_pivot;
 
 // Columns left to right, until every row has a pivot: the rank. A column that no row has is passed over.
 pub fn eliminate(n: usize, m: usize, w: usize, numbers: &mut [u32], words: &mut [u64]) -> usize

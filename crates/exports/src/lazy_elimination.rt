@@ -1,8 +1,7 @@
 // Lazy elimination under a plain name.
 use crate::tell;
-ghost use mathlib.Core.Path.{_≡_};
-ghost use Rattle.answers.specs.Numbers.{numberOf, placeOf};
 ghost use Rattle.lazy_units.specs.LazyCall.{lazyCall};
+ghost use Rattle.exports.specs.Told.{Tells};
 
 // `lazy_units::lazy_gaussian_elimination`.
 #[no_mangle]
@@ -17,11 +16,7 @@ pub extern "C" fn orohkaril_lazy(
     words: &mut [u64],
     place: &mut usize,
 ) -> u32
-    ensures { λ r. ⌜ r ≡ numberOf (lazyCall n m (now (starts .entry)) (now (vars .entry)) (now (constants .entry)) (now (solution .entry)) (now (numbers .entry)) (now (words .entry)) .answer) ⌝ }
-    ensures { λ _. ⌜ now (place .exit) ≡ placeOf (lazyCall n m (now (starts .entry)) (now (vars .entry)) (now (constants .entry)) (now (solution .entry)) (now (numbers .entry)) (now (words .entry)) .answer) ⌝ }
-    ensures { λ _. ⌜ now (solution .exit) ≡ lazyCall n m (now (starts .entry)) (now (vars .entry)) (now (constants .entry)) (now (solution .entry)) (now (numbers .entry)) (now (words .entry)) .solution ⌝ }
-    ensures { λ _. ⌜ now (numbers .exit) ≡ lazyCall n m (now (starts .entry)) (now (vars .entry)) (now (constants .entry)) (now (solution .entry)) (now (numbers .entry)) (now (words .entry)) .numbers ⌝ }
-    ensures { λ _. ⌜ now (words .exit) ≡ lazyCall n m (now (starts .entry)) (now (vars .entry)) (now (constants .entry)) (now (solution .entry)) (now (numbers .entry)) (now (words .entry)) .words ⌝ }
+    ensures { λ r. ⌜ Tells (lazyCall n m (now (starts .entry)) (now (vars .entry)) (now (constants .entry)) (now (solution .entry)) (now (numbers .entry)) (now (words .entry))) r (now (place .exit)) (now (solution .exit)) (now (numbers .exit)) (now (words .exit)) ⌝ }
 {
     let answer = lazy_units::lazy_gaussian_elimination(
         n,

@@ -9,7 +9,7 @@ ghost use Rattle.equation.specs.Sums.{sumCall};
 ghost use Rattle.system_check.specs.CheckCall.{checkCall};
 ghost use Rattle.sparse.specs.SparseCall.{sparseCall};
 ghost use Rattle.dense.specs.Call.{denseCall};
-ghost use Rattle.exports.specs.Told.{toldNumber, toldPlace};
+ghost use Rattle.exports.specs.Told.{Tells, TellsSum, toldNumber, toldPlace};
 
 // The number of an answer; its place is written through `place`.
 fn tell(answer: Answer, place: &mut usize) -> u32
@@ -32,11 +32,7 @@ pub extern "C" fn orohkaril_sum(
     constant: &mut u64,
     place: &mut usize,
 ) -> u32
-    ensures { λ r. ⌜ r ≡ numberOf (sumCall (now (left .entry)) (now (right .entry)) «left_c» «right_c» (now (out .entry)) .result .answer) ⌝ }
-    ensures { λ _. ⌜ now (place .exit) ≡ placeOf (sumCall (now (left .entry)) (now (right .entry)) «left_c» «right_c» (now (out .entry)) .result .answer) ⌝ }
-    ensures { λ _. ⌜ now (len .exit) ≡ sumCall (now (left .entry)) (now (right .entry)) «left_c» «right_c» (now (out .entry)) .result .len ⌝ }
-    ensures { λ _. ⌜ now (constant .exit) ≡ sumCall (now (left .entry)) (now (right .entry)) «left_c» «right_c» (now (out .entry)) .result .constant ⌝ }
-    ensures { λ _. ⌜ now (out .exit) ≡ sumCall (now (left .entry)) (now (right .entry)) «left_c» «right_c» (now (out .entry)) .out ⌝ }
+    ensures { λ r. ⌜ TellsSum (sumCall (now (left .entry)) (now (right .entry)) «left_c» «right_c» (now (out .entry))) r (now (place .exit)) (now (len .exit)) (now (constant .exit)) (now (out .exit)) ⌝ }
 {
     let summed = equation::sum(left, right, left_c, right_c, out);
     *len = summed.len;
@@ -79,11 +75,7 @@ pub extern "C" fn orohkaril_sparse(
     words: &mut [u64],
     place: &mut usize,
 ) -> u32
-    ensures { λ r. ⌜ r ≡ numberOf (sparseCall n m (now (starts .entry)) (now (vars .entry)) (now (constants .entry)) (now (solution .entry)) (now (numbers .entry)) (now (words .entry)) .answer) ⌝ }
-    ensures { λ _. ⌜ now (place .exit) ≡ placeOf (sparseCall n m (now (starts .entry)) (now (vars .entry)) (now (constants .entry)) (now (solution .entry)) (now (numbers .entry)) (now (words .entry)) .answer) ⌝ }
-    ensures { λ _. ⌜ now (solution .exit) ≡ sparseCall n m (now (starts .entry)) (now (vars .entry)) (now (constants .entry)) (now (solution .entry)) (now (numbers .entry)) (now (words .entry)) .solution ⌝ }
-    ensures { λ _. ⌜ now (numbers .exit) ≡ sparseCall n m (now (starts .entry)) (now (vars .entry)) (now (constants .entry)) (now (solution .entry)) (now (numbers .entry)) (now (words .entry)) .numbers ⌝ }
-    ensures { λ _. ⌜ now (words .exit) ≡ sparseCall n m (now (starts .entry)) (now (vars .entry)) (now (constants .entry)) (now (solution .entry)) (now (numbers .entry)) (now (words .entry)) .words ⌝ }
+    ensures { λ r. ⌜ Tells (sparseCall n m (now (starts .entry)) (now (vars .entry)) (now (constants .entry)) (now (solution .entry)) (now (numbers .entry)) (now (words .entry))) r (now (place .exit)) (now (solution .exit)) (now (numbers .exit)) (now (words .exit)) ⌝ }
 {
     let answer = sparse::gaussian_elimination(
         n,
@@ -111,11 +103,7 @@ pub extern "C" fn orohkaril_dense(
     words: &mut [u64],
     place: &mut usize,
 ) -> u32
-    ensures { λ r. ⌜ r ≡ numberOf (denseCall n m w (now (rows .entry)) (now (constants .entry)) (now (solution .entry)) (now (numbers .entry)) (now (words .entry)) .answer) ⌝ }
-    ensures { λ _. ⌜ now (place .exit) ≡ placeOf (denseCall n m w (now (rows .entry)) (now (constants .entry)) (now (solution .entry)) (now (numbers .entry)) (now (words .entry)) .answer) ⌝ }
-    ensures { λ _. ⌜ now (solution .exit) ≡ denseCall n m w (now (rows .entry)) (now (constants .entry)) (now (solution .entry)) (now (numbers .entry)) (now (words .entry)) .solution ⌝ }
-    ensures { λ _. ⌜ now (numbers .exit) ≡ denseCall n m w (now (rows .entry)) (now (constants .entry)) (now (solution .entry)) (now (numbers .entry)) (now (words .entry)) .numbers ⌝ }
-    ensures { λ _. ⌜ now (words .exit) ≡ denseCall n m w (now (rows .entry)) (now (constants .entry)) (now (solution .entry)) (now (numbers .entry)) (now (words .entry)) .words ⌝ }
+    ensures { λ r. ⌜ Tells (denseCall n m w (now (rows .entry)) (now (constants .entry)) (now (solution .entry)) (now (numbers .entry)) (now (words .entry))) r (now (place .exit)) (now (solution .exit)) (now (numbers .exit)) (now (words .exit)) ⌝ }
 {
     let answer = dense::dense_gaussian_elimination(
         n,

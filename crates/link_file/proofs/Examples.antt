@@ -17,7 +17,8 @@ use Rattle.link_form.specs.File.{count, rowBytes, row, readRows, headerKept, re
 use Rattle.link_lines.specs.Lines.{ended, headerLine, answerLine, valueLines}
 use Rattle.link_form.specs.Loading.{startsFrom, varsOf, constantsOf}
 use Rattle.link_rows.specs.RowsCall.{solverOf}
-use Rattle.link_file.specs.Text.{served, answered, outcomeText, textOf, linkText}
+use Rattle.link_lines.specs.Outcomes.{outcomeText}
+use Rattle.link_file.specs.Text.{served, answered, textOf, linkText}
 
 abbrev file : ℕ → List ℕ
 file kind =

@@ -11,7 +11,8 @@ use Rattle.link_lines.specs.Decimal.{decimal, digitsBefore}
 use Rattle.link_form.specs.File.{count, rowBytes, row, readRows, headerKept, readFile}
 use Rattle.link_lines.specs.Lines.{ended, headerLine, answerLine, valueLines}
 use Rattle.link_edges.specs.Edges.{edgeOf, edgesOf, lentCall}
-use Rattle.link_file.specs.Text.{served, answered, outcomeText, textOf, linkText}
+use Rattle.link_lines.specs.Outcomes.{outcomeText}
+use Rattle.link_file.specs.Text.{served, answered, textOf, linkText}
 
 abbrev file : List ℕ
 file =

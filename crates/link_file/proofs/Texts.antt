@@ -1,33 +1,34 @@
 -- The text of a file in the cases that the code tells apart.
-use mathlib.Core.Path.{_≡_, refl, sym, ap, ap₂, subst, _∙_}
+use mathlib.Core.Path.{_≡_, refl, sym, ap, _∙_}
 use mathlib.Core.Bool.{Bool, true, false, _&&_}
-use mathlib.Core.List.{List, [], _∷_, _++_, append-nil}
+use mathlib.Core.List.{List, [], _++_}
 use mathlib.Core.Option.{Option, none, some}
-use Prim.Native.Nat.{ℕ, zero, suc, _+_, _*_, _≤_, _<_}
+use Prim.Native.Nat.{ℕ, _+_, _≤_, _<_}
 use native.Mathlib.Omega.{arith}
-use lib.ListN.{length, take, drop, replicate, length-replicate, length-append}
+use lib.ListN.{length, take, drop, length-replicate, length-append}
 use lib.Dec.{eqb, leb}
-use borrow.Author.Tests.{eqb-true, eq-eqb, ne-eqb, le-leb, lt-leb, leb-true}
+use borrow.Author.Tests.{eqb-true, ne-eqb, le-leb, lt-leb, leb-true}
 use Rattle.gf2.specs.Equation.{Equation, MeetsAll}
 use Rattle.gf2.proofs.Both.{both}
 use Rattle.answers.specs.Calls.{pick}
 use Rattle.answers.specs.Numbers.{numberOf, placeOf}
 use Rattle.answers.specs.declared.Answer.{Answer}
 use Rattle.answers.specs.declared.Answer.the-variants.{Solved, TooLarge, BadShape, BadEntry, WrongSolution, ShortArea, Unsolvable, CrowdedVertex, Stuck, BadFile, OutsideDomain}
-use Rattle.system.specs.Fits.{listedIn}
 use Rattle.areas.specs.Stretch.{put}
 use Rattle.areas.proofs.Stretch.{take-replicate}
 use Rattle.link_form.specs.declared.scan.Form.the-variants.{Malformed, Described}
 use Rattle.link_form.specs.File.{Link, peelKind, width, headerBytes, readRows, readFile, formOf}
-use Rattle.link_lines.specs.Lines.{headerLine, answerLine, valueLines, mostEnded, mostHeader, mostAnswer}
-use Rattle.link_form.specs.Lent.{mostVariables, mostRows, mostListed, zeros, fileRows, Served}
+use Rattle.link_lines.specs.Lines.{headerLine, valueLines}
+use Rattle.link_form.specs.Lent.{mostVariables, mostRows, mostListed, zeros, fileRows, Served, sizesServed}
 use Rattle.link_form.proofs.Loadable.{Loadable, loadable}
 use Rattle.link_lines.proofs.Lining.{Told, told-first, told-more, header-short, answer-short, values-short}
 use Rattle.link_rows.specs.RowsCall.{rowsCall}
 use Rattle.link_rows.proofs.Solving.{rows-solves}
 use Rattle.link_edges.specs.Edges.{edgesCall}
 use Rattle.link_edges.proofs.Threes.{edges-three, edges-solves}
-use Rattle.link_file.specs.Text.{Outcome, outcome, ofRows, ofEdges, served, fileLink, sizesServed, answered, version, refusalText, outcomeText, textOf, fileText, linkText, mostOutcome, mostText, linkCall}
+use Rattle.link_file.specs.Text.{ofRows, ofEdges, served, fileLink, answered, version, textOf, fileText, linkText, mostOutcome, mostText, linkCall}
+use Rattle.link_lines.specs.Outcomes.{Outcome, outcome, refusalText, outcomeText}
+use Rattle.link_lines.proofs.Telling.{refused-text, retold}
 
 -- ---- the call of a kind
 
@@ -69,56 +70,12 @@ answered-large l s = rw (l .many, l .listed, s)
 
 -- ---- the lines
 
-pub refused-text : (answer : Answer) (values : List ℕ) (number : ℕ) → number ≡ numberOf answer → 0 < number → refusalText answer ≡ outcomeText (outcome answer values)
-unfolding outcomeText
-refused-text answer values number e h =
-    let z : (numberOf answer ≡ 0 → ⊥) = λ q. omega arith in
-    rw (ne-eqb (numberOf answer) 0 z) (sym (append-nil (refusalText answer)))
-
-pub solved-text : (answer : Answer) (values : List ℕ) (number : ℕ) → number ≡ numberOf answer → number ≤ 0
-    → refusalText answer ++ valueLines values ≡ outcomeText (outcome answer values)
-unfolding outcomeText
-solved-text answer values number e h = let z : numberOf answer ≡ 0 = omega arith in rw (eq-eqb (numberOf answer) 0 z)
-
 pub large-text : {bytes : List ℕ} {kind n m t : ℕ} → Loadable bytes kind n m t → sizesServed n m t ≡ false → refusalText TooLarge ≡ outcomeText (answered (fileLink kind n m bytes))
 large-text l s = refused-text TooLarge [] 1 refl (omega arith) ∙ sym (ap outcomeText (answered-large l s))
 
 pub small-text : {bytes : List ℕ} {kind n m t : ℕ} → Loadable bytes kind n m t → sizesServed n m t ≡ true
     → outcomeText (served kind n (fileRows kind m bytes) (zeros n)) ≡ outcomeText (answered (fileLink kind n m bytes))
 small-text l s = sym (ap outcomeText (answered-small l s))
-
-pub outcome-is : (answer : Answer) (values : List ℕ) (r : Outcome) → answer ≡ r .answer → values ≡ r .values → outcomeText (outcome answer values) ≡ outcomeText r
-outcome-is answer values r a v = ap₂ (λ (x : Answer) (y : List ℕ). outcomeText (outcome x y)) a v
-
--- the same text under another name
-pub retold : {text text′ : List ℕ} (at r : ℕ) (before out : List ℕ) → text ≡ text′ → r ≡ at + length text → out ≡ put at text before
-    → (r ≡ at + length text′) × (out ≡ put at text′ before)
-retold at r before out q e w = (e ∙ ap (λ (t : List ℕ). at + length t) q, w ∙ ap (λ (t : List ℕ). put at t before) q)
-
-pub line-told : (answer : Answer) (number place at r : ℕ) (before out : List ℕ) → number ≡ numberOf answer → place ≡ placeOf answer
-    → r ≡ at + length (answerLine number place) → out ≡ put at (answerLine number place) before
-    → (r ≡ at + length (refusalText answer)) × (out ≡ put at (refusalText answer) before)
-line-told answer number place at r before out a b e w = retold at r before out (ap₂ answerLine a b) e w
-
--- what is left behind the line of an answer
-module _ (answer : Answer) (values before : List ℕ) (at p : ℕ) (out : List ℕ) (room : at + (mostAnswer + length values * mostEnded) ≤ length before)
-    (ends : p ≡ at + length (refusalText answer)) (stands : out ≡ put at (refusalText answer) before) where
-  line : Told before at (refusalText answer) p out
-  line = let a = answer-short (numberOf answer) (placeOf answer) in told-first before at (refusalText answer) p out ends stands (omega arith)
-
-  pub values-room : p + length values * mostEnded ≤ length out
-  values-room =
-      let a = answer-short (numberOf answer) (placeOf answer) in
-      let l = line .long in
-      omega arith
-
-  pub values-told : (q : ℕ) (then : List ℕ) → q ≡ p + length (valueLines values) → then ≡ put p (valueLines values) out
-      → (q ≡ at + length (refusalText answer ++ valueLines values)) × (then ≡ put at (refusalText answer ++ valueLines values) before)
-  values-told q then e w =
-      let v = values-short values in
-      let h = values-room in
-      let t = told-more (valueLines values) q then line e w (omega arith) in
-      (t .ends, t .stands)
 
 -- ---- no text is longer than the longest
 

@@ -20,8 +20,10 @@ use Rattle.link_lines.specs.Lines.{headerLine, answerLine, valueLines}
 use Rattle.link_form.proofs.OneFile.{link-written}
 use Rattle.link_form.proofs.Loadable.{Loadable, loadable}
 use Rattle.link_lines.proofs.Lining.{header-short, answer-short}
-use Rattle.link_file.specs.Text.{version, outcome, answered, outcomeText, fileLink, textOf, fileText, linkText, mostText, LinkCall, linkCall}
-use Rattle.link_file.proofs.Texts.{solved-text, answered-solves, answered-fits}
+use Rattle.link_lines.specs.Outcomes.{outcome, outcomeText}
+use Rattle.link_file.specs.Text.{version, answered, fileLink, textOf, fileText, linkText, mostText, LinkCall, linkCall}
+use Rattle.link_lines.proofs.Telling.{solved-text}
+use Rattle.link_file.proofs.Texts.{answered-solves, answered-fits}
 
 -- a link that fits is answered as exactly the call on the system that it describes
 pub text-of-link : (f : Link) → LinkFits f → linkText (writeFile f) ≡ textOf f

@@ -1,5 +1,4 @@
 -- What the file program prints for the bytes that it reads.
-use mathlib.Core.Bool.{Bool, _&&_}
 use mathlib.Core.List.{List, [], _++_}
 use mathlib.Core.Option.{Option, none, some}
 use Prim.Native.Nat.{ℕ, _+_, _*_}
@@ -8,26 +7,17 @@ use lib.Dec.{eqb, leb}
 use Rattle.gf2.specs.Equation.{Equation}
 use Rattle.areas.specs.Stretch.{put}
 use Rattle.answers.specs.Calls.{Call, pick}
-use Rattle.answers.specs.Numbers.{numberOf, placeOf}
-use Rattle.answers.specs.declared.Answer.{Answer}
 use Rattle.answers.specs.declared.Answer.the-variants.{TooLarge, BadFile}
 use Rattle.system.specs.Fits.{listedIn}
 use Rattle.peel_rules.specs.Calls.{PeelCall}
 use Rattle.link_form.specs.File.{Link, peelKind, readFile}
-use Rattle.link_lines.specs.Lines.{headerLine, answerLine, valueLines, mostEnded, mostHeader, mostAnswer}
-use Rattle.link_form.specs.Lent.{mostVariables, mostRows, mostListed, zeros, fileRows}
+use Rattle.link_form.specs.Lent.{mostVariables, sizesServed, zeros, fileRows}
+use Rattle.link_lines.specs.Lines.{headerLine, mostEnded, mostHeader, mostAnswer}
+use Rattle.link_lines.specs.Outcomes.{Outcome, outcome, refusalText, outcomeText}
 use Rattle.link_rows.specs.RowsCall.{rowsCall}
 use Rattle.link_edges.specs.Edges.{edgesCall}
 
 -- ---- the answer
-
--- what a call answers, and the solution that it leaves
-pub record Outcome : Type 0 where
-  pub answer : Answer
-  pub values : List ℕ
-
-abbrev pub outcome : Answer → List ℕ → Outcome
-outcome answer values = record { answer = answer; values = values }
 
 abbrev pub ofRows : Call → Outcome
 ofRows call = outcome (call .answer) (call .solution)
@@ -43,10 +33,6 @@ served kind n rows solution = pick (eqb kind peelKind) (ofEdges (edgesCall n row
 abbrev pub fileLink : ℕ → ℕ → ℕ → List ℕ → Link
 fileLink kind n m bytes = record { kind = kind; n = n; rows = fileRows kind m bytes }
 
--- the program's own sizes
-abbrev pub sizesServed : ℕ → ℕ → ℕ → Bool
-sizesServed n m t = leb n mostVariables && (leb m mostRows && leb t mostListed)
-
 -- a size above the largest is 1, before any call
 unfoldable pub answered : Link → Outcome
 answered f =
@@ -56,13 +42,6 @@ answered f =
 
 abbrev pub version : ℕ
 version = 1
-
-abbrev pub refusalText : Answer → List ℕ
-refusalText answer = answerLine (numberOf answer) (placeOf answer)
-
--- number and place; after 0 only, the values
-unfoldable pub outcomeText : Outcome → List ℕ
-outcomeText r = refusalText (r .answer) ++ pick (eqb (numberOf (r .answer)) 0) (valueLines (r .values)) []
 
 unfoldable pub textOf : Link → List ℕ
 textOf f = headerLine version (f .kind) (f .n) (length (f .rows)) ++ outcomeText (answered f)

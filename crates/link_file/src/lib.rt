@@ -22,7 +22,7 @@ fn write_text(bytes: &[u8], out: &mut [u8]) -> usize
 {
     let form = link_form::read_form(bytes);
     let Form::Described { kind, n, m, t } = form else {
-        return telling::write_refusal(out, 0, Answer::BadFile);
+        return link_lines::write_refusal(out, 0, Answer::BadFile);
     };
     let at = link_lines::write_header_line(out, 0, VERSION, kind, n, m);
     telling::write_answer(bytes, kind, n, m, t, out, at)

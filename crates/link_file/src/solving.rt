@@ -2,19 +2,9 @@
 ghost use mathlib.Core.Path.{_≡_};
 ghost use Rattle.system.specs.Fits.{listedIn};
 ghost use Rattle.link_form.specs.Lent.{Served, fileRows};
-ghost use Rattle.link_file.specs.Text.{served, sizesServed};
+ghost use Rattle.link_file.specs.Text.{served};
 use answers::Answer;
-use link_form::MOST_LISTED;
-use link_form::MOST_ROWS;
-use link_form::MOST_VARIABLES;
 use link_form::PEEL;
-
-// Whether no size is above the program's own.
-pub fn sizes_served(n: usize, m: usize, t: usize) -> bool
-    ensures { λ r. ⌜ r ≡ sizesServed n m t ⌝ }
-{
-    (n <= MOST_VARIABLES) & ((m <= MOST_ROWS) & (t <= MOST_LISTED))
-}
 
 // Solves by the call of the kind.
 pub fn solve(bytes: &[u8], kind: u64, n: usize, m: usize, t: usize, solution: &mut [u64]) -> Answer

@@ -1,43 +1,20 @@
 // The lines of an answer.
 ghost use mathlib.Core.Path.{_≡_};
-ghost use Prim.Native.Nat.{_+_, _*_, _≤_};
+ghost use Prim.Native.Nat.{_+_, _≤_};
 ghost use lib.ListN.{length};
 ghost use Rattle.areas.specs.Stretch.{put};
 ghost use Rattle.system.specs.Fits.{listedIn};
 ghost use Rattle.link_form.specs.declared.scan.Form.the-variants.{Described};
 ghost use Rattle.link_form.specs.File.{readFile, formOf};
-ghost use Rattle.link_lines.specs.Lines.{mostEnded, mostAnswer};
+ghost use Rattle.link_lines.specs.Outcomes.{outcomeText};
 ghost use Rattle.link_form.specs.Lent.{Served, fileRows, zeros};
-ghost use Rattle.link_file.specs.Text.{outcome, served, fileLink, answered, refusalText, outcomeText, mostOutcome};
-use crate::solving::sizes_served;
+ghost use Rattle.link_file.specs.Text.{served, fileLink, answered, mostOutcome};
 use crate::solving::solve;
 use answers::Answer;
 use link_form::MOST_VARIABLES;
-
-// Writes an answer that no values follow, and says where it ends.
-pub fn write_refusal(out: &mut [u8], at: usize, answer: Answer) -> usize
-    requires { ⌜ at + mostAnswer ≤ length (now out) ⌝ }
-    ensures { λ r. ⌜ r ≡ at + length (refusalText answer) ⌝ }
-    ensures { λ _. ⌜ now (out .exit) ≡ put at (refusalText answer) (now (out .entry)) ⌝ }
-{
-    let number = answer.number();
-    let place = answer.place();
-    link_lines::write_answer_line(out, at, number, place)
-}
-
-// Writes the answer, and the values after 0 only.
-fn write_outcome(out: &mut [u8], at: usize, answer: Answer, values: &[u64]) -> usize
-    requires { ⌜ at + (mostAnswer + length (now values) * mostEnded) ≤ length (now out) ⌝ }
-    ensures { λ r. ⌜ r ≡ at + length (outcomeText (outcome answer (now (values .entry)))) ⌝ }
-    ensures { λ _. ⌜ now (out .exit) ≡ put at (outcomeText (outcome answer (now (values .entry)))) (now (out .entry)) ⌝ }
-{
-    let p = write_refusal(out, at, answer);
-    let number = answer.number();
-    if number > 0 {
-        return p;
-    }
-    link_lines::write_values(out, p, values)
-}
+use link_form::sizes_served;
+use link_lines::write_outcome;
+use link_lines::write_refusal;
 
 // Solves in the cells that are lent, and writes the outcome.
 fn solve_and_write(

@@ -1,9 +1,11 @@
 -- What the file program serves and what it lends.
 use mathlib.Core.Path.{_≡_}
+use mathlib.Core.Bool.{Bool, _&&_}
 use mathlib.Core.List.{List}
 use mathlib.Core.Option.{some}
 use Prim.Native.Nat.{ℕ, _≤_}
 use lib.ListN.{length, drop, replicate}
+use lib.Dec.{leb}
 use Rattle.gf2.specs.Equation.{Equation}
 use Rattle.system.specs.Fits.{listedIn}
 use Rattle.link_form.specs.File.{width, headerBytes, maxBytes, readRows}
@@ -19,6 +21,10 @@ mostRows = 256
 
 abbrev pub mostListed : ℕ
 mostListed = 2048
+
+-- no size is above the largest
+abbrev pub sizesServed : ℕ → ℕ → ℕ → Bool
+sizesServed n m t = leb n mostVariables && (leb m mostRows && leb t mostListed)
 
 -- ---- the work areas that are lent, all zero
 

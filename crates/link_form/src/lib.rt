@@ -11,6 +11,7 @@ pub use lent::LENT_WORDS;
 pub use lent::MOST_LISTED;
 pub use lent::MOST_ROWS;
 pub use lent::MOST_VARIABLES;
+pub use lent::sizes_served;
 pub use load::load_rows;
 pub use scan::Form;
 pub use scan::HEADER_BYTES;

@@ -1,4 +1,5 @@
 pub mod Digits
 pub mod Said
 pub mod Lining
+pub mod Telling
 pub mod Examples

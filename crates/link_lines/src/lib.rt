@@ -1,7 +1,8 @@
 // The lines of an answer to a link file, in decimal digits.
 mod decimal;
 mod lines;
+mod outcomes;
 
-pub use lines::write_answer_line;
 pub use lines::write_header_line;
-pub use lines::write_values;
+pub use outcomes::write_outcome;
+pub use outcomes::write_refusal;

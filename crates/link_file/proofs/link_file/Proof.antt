@@ -1,25 +1,14 @@
 use Rattle.link_file.proofs.Texts.{short-call, long-call}
-use native.Mathlib.Omega.{arith}
 use borrow.Author.Needs.{needs}
 use Rattle.link_file.proofs.link_file.Statement.{statement}
 use Rattle.link_file.proofs.link_file.Tie as tie
-use Rattle.link_file.proofs.link_file.Reads as reads
-use Rattle.link_file.proofs.link_file.Lts as lts
-use Rattle.link_file.proofs.write_text.Reads as write-text-reads
 
--- src/lib.rt:37:9
 returns : tie.Need-returns
 returns c = let a = c .before .before .before .args in short-call (a .bytes .now) (a .out .now) (c .if1 .taken)
 
--- src/lib.rt:39:5
 write-text-requires : tie.Need-write-text-requires
 write-text-requires c κs = c .before .if1 .left
 
--- src/lib.rt:32:1
-same-length : tie.Need-same-length
-same-length c = search needs
-
--- src/lib.rt:32:1
 returns-2 : tie.Need-returns-2
 returns-2 c =
     let a = c .before .before .before .before .before .before .before .args in
@@ -27,4 +16,4 @@ returns-2 c =
     long-call (a .bytes .now) (a .out .now) _ (c .before .before .write-text .result) (c .before .before .before .before .if1 .left) (w .0) (w .1)
 
 pub link-file-spec : {M : Type 1} → statement M
-link-file-spec = tie.close (tie.spec returns write-text-requires same-length returns-2)
+link-file-spec = tie.close (tie.spec returns write-text-requires (λ c. search needs) returns-2)

@@ -1,26 +1,15 @@
 use mathlib.Core.Path.{sym, ap, subst, _∙_}
 use Prim.Native.Nat.{ℕ}
 use Rattle.link_form.specs.Lent.{Served, fileRows}
-use Rattle.link_file.specs.Text.{Outcome}
+use Rattle.link_lines.specs.Outcomes.{Outcome}
 use Rattle.link_file.proofs.Texts.{by-peeling, by-elimination}
-use native.Mathlib.Omega.{arith}
 use borrow.Author.Needs.{needs}
 use Rattle.link_file.proofs.solving.solve.Statement.{statement}
 use Rattle.link_file.proofs.solving.solve.Tie as tie
-use Rattle.link_file.proofs.solving.solve.Reads as reads
-use Rattle.link_file.proofs.solving.solve.Lts as lts
-use Rattle.link_edges.proofs.solve_edges.Reads as solve-edges-reads
-use Rattle.link_rows.proofs.solve_rows.Reads as solve-rows-reads
 
--- src/solving.rt:33:9
 solve-edges-requires : tie.Need-solve-edges-requires
 solve-edges-requires c κs = let a = c .before .before .before .before .args in subst (λ (k : ℕ). Served k (a .n) (a .m) (a .bytes .now)) (c .before .if1 .taken) (c .before .before .before .before .pre .0)
 
--- src/solving.rt:33:9
-same-length : tie.Need-same-length
-same-length c = search needs
-
--- src/solving.rt:33:9
 returns : tie.Need-returns
 returns c =
     let a = c .before .before .before .before .before .before .before .args in
@@ -28,15 +17,9 @@ returns c =
     let q = sym (by-peeling (a .kind) (a .n) (a .m) (a .bytes .now) (a .solution .now) (c .before .before .before .before .if1 .taken)) in
     (e .0 ∙ ap (λ (r : Outcome). r .answer) q, e .1 ∙ ap (λ (r : Outcome). r .values) q)
 
--- src/solving.rt:35:5
 solve-rows-requires : tie.Need-solve-rows-requires
 solve-rows-requires c κs = c .before .before .before .before .pre
 
--- src/solving.rt:20:1
-same-length-2 : tie.Need-same-length-2
-same-length-2 c = search needs
-
--- src/solving.rt:20:1
 returns-2 : tie.Need-returns-2
 returns-2 c =
     let a = c .before .before .before .before .before .before .before .args in
@@ -47,4 +30,4 @@ returns-2 c =
 pub solve-spec : {M : Type 1} → statement M
 solve-spec =
     tie.close
-    (tie.spec solve-edges-requires same-length returns solve-rows-requires same-length-2 returns-2)
+    (tie.spec solve-edges-requires (λ c. search needs) returns solve-rows-requires (λ c. search needs) returns-2)

@@ -1,14 +1,10 @@
 use Rattle.link_form.specs.Lent.{fileRows}
 use Rattle.link_file.specs.Text.{served}
-use Rattle.link_file.proofs.Texts.{retold, outcome-is}
+use Rattle.link_lines.proofs.Telling.{retold, outcome-is}
 use native.Mathlib.Omega.{arith}
 use borrow.Author.Needs.{needs}
 use Rattle.link_file.proofs.telling.solve_and_write.Statement.{statement}
 use Rattle.link_file.proofs.telling.solve_and_write.Tie as tie
-use Rattle.link_file.proofs.telling.solve_and_write.Reads as reads
-use Rattle.link_file.proofs.telling.solve_and_write.Lts as lts
-use Rattle.link_file.proofs.solving.solve.Reads as solve-reads
-use Rattle.link_file.proofs.telling.write_outcome.Reads as write-outcome-reads
 
 solve-requires : tie.Need-solve-requires
 solve-requires c κs = c .before .before .before .before .pre .0
@@ -18,12 +14,6 @@ write-outcome-requires c κs =
     let s = c .before .before .before .before .before .before .before .before .before in
     let f = s .pre .0 .0 .few-variables in
     omega (arith, s .pre .1)
-
-same-length : tie.Need-same-length
-same-length c = search needs
-
-same-length-2 : tie.Need-same-length-2
-same-length-2 c = search needs
 
 returns : tie.Need-returns
 returns c =
@@ -36,4 +26,4 @@ returns c =
 
 pub solve-and-write-spec : {M : Type 1} → statement M
 solve-and-write-spec =
-    tie.close (tie.spec solve-requires write-outcome-requires same-length same-length-2 returns)
+    tie.close (tie.spec solve-requires write-outcome-requires (λ c. search needs) (λ c. search needs) returns)

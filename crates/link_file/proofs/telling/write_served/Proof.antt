@@ -3,33 +3,23 @@ use mathlib.Core.List.{List}
 use Prim.Native.Nat.{ℕ}
 use Rattle.areas.proofs.Stretch.{take-replicate}
 use Rattle.link_form.specs.Lent.{mostVariables, fileRows}
-use Rattle.link_file.specs.Text.{served, outcomeText}
-use Rattle.link_file.proofs.Texts.{retold, few-cells}
-use native.Mathlib.Omega.{arith}
+use Rattle.link_lines.specs.Outcomes.{outcomeText}
+use Rattle.link_lines.proofs.Telling.{retold}
+use Rattle.link_file.specs.Text.{served}
+use Rattle.link_file.proofs.Texts.{few-cells}
 use borrow.Author.Needs.{needs}
 use Rattle.link_file.proofs.telling.write_served.Statement.{statement}
 use Rattle.link_file.proofs.telling.write_served.Tie as tie
-use Rattle.link_file.proofs.telling.write_served.Reads as reads
-use Rattle.link_file.proofs.telling.write_served.Lts as lts
-use Rattle.link_file.proofs.telling.solve_and_write.Reads as solve-and-write-reads
 
--- src/telling.rt:78:43
 array-borrow-prefix-solution : tie.Need-array-borrow-prefix-solution
 array-borrow-prefix-solution c = c .before .before .pre .0 .0 .few-variables
 
--- src/telling.rt:78:43
 slice-aggregate-solve-and-write : tie.Need-slice-aggregate-solve-and-write
 slice-aggregate-solve-and-write c = let s = c .before .before .before in sym (few-cells (s .args .n) mostVariables (s .pre .0 .0 .few-variables))
 
--- src/telling.rt:78:5
 solve-and-write-requires : tie.Need-solve-and-write-requires
 solve-and-write-requires c κs = let s = c .before .before .before .before in (s .pre .0, (few-cells (s .args .n) mostVariables (s .pre .0 .0 .few-variables), s .pre .1))
 
--- src/telling.rt:63:1
-same-length : tie.Need-same-length
-same-length c = search needs
-
--- src/telling.rt:63:1
 returns : tie.Need-returns
 returns c =
     let s = c .before .before .before .before .before .before .before .before in
@@ -45,5 +35,5 @@ write-served-spec =
     array-borrow-prefix-solution
     slice-aggregate-solve-and-write
     solve-and-write-requires
-    same-length
+    (λ c. search needs)  -- same-length
     returns)

@@ -7,11 +7,6 @@ use Rattle.link_form.specs.Loading.{rowsAt}
 use Rattle.link_form.proofs.Loading.{Loading, loading-begin, first-start, loading-room, loading-turn, loading-sizes, loading-end}
 use Rattle.link_form.proofs.load.load_rows.Statement.{statement}
 use Rattle.link_form.proofs.load.load_rows.Tie as tie
-use Rattle.link_form.proofs.load.load_rows.Reads as reads
-use Rattle.link_form.proofs.load.load_rows.Lts as lts
-use Rattle.link_form.proofs.bytes.read_number.Reads as read-number-reads
-use Rattle.link_form.proofs.load.load_vars.Reads as load-vars-reads
-use Rattle.link_form.proofs.scan.count_bytes.Reads as count-bytes-reads
 
 abbrev Inv-loop : tie.InvT-loop
 Inv-loop bytes at kind w m starts₀ vars₀ constants₀ p₀ t₀ i₀ starts vars constants p t i = Loading bytes kind w m (rowsAt kind w m at bytes) starts₀ vars₀ constants₀ starts vars constants p t i
@@ -19,121 +14,69 @@ Inv-loop bytes at kind w m starts₀ vars₀ constants₀ p₀ t₀ i₀ starts 
 abbrev μ-loop : tie.MeasureT-loop
 μ-loop bytes at kind w m starts₀ vars₀ constants₀ p₀ t₀ i₀ starts vars constants p t i = m - i
 
--- src/load.rt:59:5
-slice-write-starts : tie.Need-slice-write-starts Inv-loop μ-loop
-slice-write-starts c = search needs
-
--- src/load.rt:63:5
 loop-holds : tie.Need-loop-holds Inv-loop μ-loop
 loop-holds c =
     let s = c .before .before .before .before in
     let a = s .args in
     loading-begin (a .bytes .now) (a .kind) (a .w) (a .m) (a .at) (rowsAt (a .kind) (a .w) (a .m) (a .at) (a .bytes .now)) (a .starts .now) (a .vars .now) (a .constants .now) (s .pre .0 .0) (s .pre .0 .1) (s .pre .0 .2) (s .pre .0 .3) (s .pre .0 .4) (s .pre .1 .0) (s .pre .1 .1) (s .pre .1 .2)
 
--- src/load.rt:64:13
 load-vars-requires : tie.Need-load-vars-requires Inv-loop μ-loop
 load-vars-requires c κs =
     let l = c .before .before .loop .inv in
     let r = loading-room l (c .before .loop-test .taken) in
     (r .0, l .short, l .wide, l .narrow, r .1)
 
--- src/load.rt:65:23
-count-bytes-requires : tie.Need-count-bytes-requires Inv-loop μ-loop
-count-bytes-requires c κs = search needs
-
--- src/load.rt:65:19
 add-end : tie.Need-add-end Inv-loop μ-loop
 add-end c =
     let b = c in
     let f = loading-sizes (b .before .before .before .before .before .before .loop .inv) (b .before .before .before .before .before .loop-test .taken) (b .before .before .before .load-vars .ensures .0) (b .count-bytes .ensures) in
     search needs
 
--- src/load.rt:65:46
 mul-end : tie.Need-mul-end Inv-loop μ-loop
 mul-end c =
     let b = c in
     let f = loading-sizes (b .before .before .before .before .before .before .loop .inv) (b .before .before .before .before .before .loop-test .taken) (b .before .before .before .load-vars .ensures .0) (b .count-bytes .ensures) in
     search needs
 
--- src/load.rt:65:19
 add-end-2 : tie.Need-add-end-2 Inv-loop μ-loop
 add-end-2 c =
     let b = c in
     let f = loading-sizes (b .before .before .before .before .before .before .loop .inv) (b .before .before .before .before .before .loop-test .taken) (b .before .before .before .load-vars .ensures .0) (b .count-bytes .ensures) in
     search needs
 
--- src/load.rt:66:24
 read-number-requires : tie.Need-read-number-requires Inv-loop μ-loop
 read-number-requires c κs =
     let b = c in
     let f = loading-sizes (b .before .before .before .before .before .before .loop .inv) (b .before .before .before .before .before .loop-test .taken) (b .before .before .before .load-vars .ensures .0) (b .count-bytes .ensures) in
     search needs
 
--- src/load.rt:66:9
-mul-constants : tie.Need-mul-constants Inv-loop μ-loop
-mul-constants c = search needs
-
--- src/load.rt:66:9
-slice-write-constants : tie.Need-slice-write-constants Inv-loop μ-loop
-slice-write-constants c = search needs
-
--- src/load.rt:67:13
 add-p : tie.Need-add-p Inv-loop μ-loop
 add-p c =
     let b = c .before in
     let f = loading-sizes (b .before .before .before .before .before .before .loop .inv) (b .before .before .before .before .before .loop-test .taken) (b .before .before .before .load-vars .ensures .0) (b .count-bytes .ensures) in
     search needs
 
--- src/load.rt:68:9
 add-t : tie.Need-add-t Inv-loop μ-loop
 add-t c =
     let b = c .before in
     let f = loading-sizes (b .before .before .before .before .before .before .loop .inv) (b .before .before .before .before .before .loop-test .taken) (b .before .before .before .load-vars .ensures .0) (b .count-bytes .ensures) in
     search needs
 
--- src/load.rt:69:9
-add-i : tie.Need-add-i Inv-loop μ-loop
-add-i c = search needs
-
--- src/load.rt:70:21
 cast-starts : tie.Need-cast-starts Inv-loop μ-loop
 cast-starts c =
     let b = c .before in
     let f = loading-sizes (b .before .before .before .before .before .before .loop .inv) (b .before .before .before .before .before .loop-test .taken) (b .before .before .before .load-vars .ensures .0) (b .count-bytes .ensures) in
     search needs
 
--- src/load.rt:70:9
-mul-starts : tie.Need-mul-starts Inv-loop μ-loop
-mul-starts c = search needs
-
--- src/load.rt:70:9
-slice-write-starts-2 : tie.Need-slice-write-starts-2 Inv-loop μ-loop
-slice-write-starts-2 c = search needs
-
--- src/load.rt:63:5
-loop-less : tie.Need-loop-less Inv-loop μ-loop
-loop-less c = search needs
-
--- src/load.rt:63:5
 loop-again : tie.Need-loop-again Inv-loop μ-loop
 loop-again c =
     let b = c .before in
     loading-turn (b .before .before .before .before .before .before .loop .inv) (b .before .before .before .before .before .loop-test .taken) (b .before .before .before .load-vars .ensures .0)
     (b .before .before .before .load-vars .ensures .1) (b .count-bytes .ensures) (c .read-number .ensures .0)
 
--- src/load.rt:42:1
 same-length : tie.Need-same-length Inv-loop μ-loop
 same-length c = let e = length-set (c .before .before .before .before .before .before .args .starts .now) 0 0 in search needs
 
--- src/load.rt:42:1
-same-length-2 : tie.Need-same-length-2 Inv-loop μ-loop
-same-length-2 c = search needs
-
--- src/load.rt:42:1
-same-length-3 : tie.Need-same-length-3 Inv-loop μ-loop
-same-length-3 c = search needs
-
--- src/load.rt:42:1
 returns : tie.Need-returns Inv-loop μ-loop
 returns c =
     let s = c .before .before .before .before .before .before in
@@ -147,25 +90,25 @@ load-rows-spec =
     (tie.spec
     Inv-loop
     μ-loop
-    slice-write-starts
+    (λ c. search needs)  -- slice-write-starts
     loop-holds
     load-vars-requires
-    count-bytes-requires
+    (λ c κs. search needs)  -- count-bytes-requires
     add-end
     mul-end
     add-end-2
     read-number-requires
-    mul-constants
-    slice-write-constants
+    (λ c. search needs)  -- mul-constants
+    (λ c. search needs)  -- slice-write-constants
     add-p
     add-t
-    add-i
+    (λ c. search needs)  -- add-i
     cast-starts
-    mul-starts
-    slice-write-starts-2
-    loop-less
+    (λ c. search needs)  -- mul-starts
+    (λ c. search needs)  -- slice-write-starts-2
+    (λ c. search needs)  -- loop-less
     loop-again
     same-length
-    same-length-2
-    same-length-3
+    (λ c. search needs)  -- same-length-2
+    (λ c. search needs)  -- same-length-3
     returns)

@@ -5,31 +5,19 @@ use Rattle.link_form.proofs.Loading.{row-rooms, row-vars}
 use borrow.Author.Needs.{needs}
 use Rattle.link_form.proofs.load.load_vars.Statement.{statement}
 use Rattle.link_form.proofs.load.load_vars.Tie as tie
-use Rattle.link_form.proofs.load.load_vars.Reads as reads
-use Rattle.link_form.proofs.load.load_vars.Lts as lts
-use Rattle.link_form.proofs.load.load_numbers.Reads as load-numbers-reads
-use Rattle.link_form.proofs.scan.count_at.Reads as count-at-reads
-use Rattle.link_form.proofs.scan.count_bytes.Reads as count-bytes-reads
 
--- src/load.rt:36:9
 count-at-requires : tie.Need-count-at-requires
 count-at-requires c κs =
     let a = c .before .before .args in
     let r = row-rooms (a .kind) (a .w) (a .at) (a .bytes .now) (c .before .before .pre .0) in
     search needs
 
--- src/load.rt:37:30
-count-bytes-requires : tie.Need-count-bytes-requires
-count-bytes-requires c κs = search needs
-
--- src/load.rt:37:25
 add-load-numbers : tie.Need-add-load-numbers
 add-load-numbers c =
     let a = c .before .before .before .before .args in
     let r = row-rooms (a .kind) (a .w) (a .at) (a .bytes .now) (c .before .before .before .before .pre .0) in
     search needs
 
--- src/load.rt:37:5
 load-numbers-requires : tie.Need-load-numbers-requires
 load-numbers-requires c κs =
     let s = c .before .before .before .before .before in
@@ -40,11 +28,6 @@ load-numbers-requires c κs =
     let q = ap (λ (n : ℕ). n * a .w) k in
     (omega arith, s .pre .1, s .pre .3, omega (arith, s .pre .4))
 
--- src/load.rt:30:1
-same-length : tie.Need-same-length
-same-length c = search needs
-
--- src/load.rt:30:1
 returns : tie.Need-returns
 returns c =
     let n = c .before .before .load-numbers .ensures in
@@ -58,8 +41,8 @@ load-vars-spec =
     tie.close
     (tie.spec
     count-at-requires
-    count-bytes-requires
+    (λ c κs. search needs)  -- count-bytes-requires
     add-load-numbers
     load-numbers-requires
-    same-length
+    (λ c. search needs)  -- same-length
     returns)

@@ -1,4 +1,3 @@
-use borrow.Author.Needs.{needs}
 use mathlib.Core.Path.{sym, _∙_}
 use Rattle.link_form.specs.Bytes.{power}
 use Rattle.link_form.proofs.Reading.{power-le}
@@ -6,18 +5,13 @@ use Rattle.link_form.proofs.Scanning.{count-edge, count-read, head-read
 use native.Mathlib.Omega.{arith}
 use Rattle.link_form.proofs.scan.count_at.Statement.{statement}
 use Rattle.link_form.proofs.scan.count_at.Tie as tie
-use Rattle.link_form.proofs.scan.count_at.Reads as reads
-use Rattle.link_form.proofs.scan.count_at.Lts as lts
-use Rattle.link_form.proofs.bytes.read_number.Reads as read-number-reads
 
--- src/scan.rt:62:9
 returns : tie.Need-returns
 unfolding power
 returns c =
     let a = c .before .before .args in
     (sym (count-edge (a .kind) (a .w) (a .at) (a .bytes .now) (c .if1 .taken)), omega arith)
 
--- src/scan.rt:64:5
 read-number-requires : tie.Need-read-number-requires
 read-number-requires c κs =
     let a = c .before .before .args in
@@ -25,7 +19,6 @@ read-number-requires c κs =
     let p = c .before .before .pre in
     (omega arith, omega arith)
 
--- src/scan.rt:56:1
 returns-2 : tie.Need-returns-2
 returns-2 c =
     let a = c .before .before .before .args in

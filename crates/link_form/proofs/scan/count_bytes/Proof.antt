@@ -1,16 +1,10 @@
-use borrow.Author.Needs.{needs}
 use borrow.Author.Tests.{eq-eqb, ne-eqb}
-use native.Mathlib.Omega.{arith}
 use Rattle.link_form.proofs.scan.count_bytes.Statement.{statement}
 use Rattle.link_form.proofs.scan.count_bytes.Tie as tie
-use Rattle.link_form.proofs.scan.count_bytes.Reads as reads
-use Rattle.link_form.proofs.scan.count_bytes.Lts as lts
 
--- src/scan.rt:50:9
 returns : tie.Need-returns
 returns c = simp (eq-eqb _ _ (c .if1 .taken))
 
--- src/scan.rt:46:1
 returns-2 : tie.Need-returns-2
 returns-2 c = simp (ne-eqb _ _ (c .if1 .left))
 

@@ -1,24 +1,11 @@
 use native.Mathlib.Omega.{arith}
 use borrow.Author.Needs.{needs}
-use mathlib.Core.Path.{sym, _∙_}
+use mathlib.Core.Path.{sym}
 use Rattle.link_form.specs.File.{rowBytes}
 use Rattle.link_form.proofs.Scanning.{head-short, size-fits, row-headless, row-missing, row-whole}
 use Rattle.link_form.proofs.scan.row_at.Statement.{statement}
 use Rattle.link_form.proofs.scan.row_at.Tie as tie
-use Rattle.link_form.proofs.scan.row_at.Reads as reads
-use Rattle.link_form.proofs.scan.row_at.Lts as lts
-use Rattle.link_form.proofs.scan.count_at.Reads as count-at-reads
-use Rattle.link_form.proofs.scan.count_bytes.Reads as count-bytes-reads
 
--- src/scan.rt:71:16
-sub-left : tie.Need-sub-left
-sub-left c = search needs
-
--- src/scan.rt:72:9
-count-bytes-requires : tie.Need-count-bytes-requires
-count-bytes-requires c κs = search needs
-
--- src/scan.rt:74:9
 returns : tie.Need-returns
 returns c =
     let a = c .before .before .before .args in
@@ -26,11 +13,6 @@ returns c =
     let t = c .if1 .taken in
     sym (row-headless (a .kind) (a .w) (a .at) (a .bytes .now) (omega arith))
 
--- src/scan.rt:76:9
-count-at-requires : tie.Need-count-at-requires
-count-at-requires c κs = search needs
-
--- src/scan.rt:77:23
 mul-size : tie.Need-mul-size
 mul-size c =
     let a = c .before .before .before .before .args in
@@ -39,7 +21,6 @@ mul-size c =
     let f = size-fits (c .before .before .count-bytes .result) (c .count-at .result) (a .w) (omega arith) (c .before .before .before .before .pre .3) (c .count-at .ensures .1) in
     search needs
 
--- src/scan.rt:77:16
 add-size : tie.Need-add-size
 add-size c =
     let a = c .before .before .before .before .args in
@@ -48,7 +29,6 @@ add-size c =
     let f = size-fits (c .before .before .count-bytes .result) (c .count-at .result) (a .w) (omega arith) (c .before .before .before .before .pre .3) (c .count-at .ensures .1) in
     search needs
 
--- src/scan.rt:77:16
 add-size-2 : tie.Need-add-size-2
 add-size-2 c =
     let a = c .before .before .before .before .args in
@@ -57,7 +37,6 @@ add-size-2 c =
     let f = size-fits (c .before .before .count-bytes .result) (c .count-at .result) (a .w) (omega arith) (c .before .before .before .before .pre .3) (c .count-at .ensures .1) in
     search needs
 
--- src/scan.rt:79:9
 returns-2 : tie.Need-returns-2
 unfolding rowBytes
 returns-2 c =
@@ -66,11 +45,6 @@ returns-2 c =
     let k = c .before .count-at .ensures .0 in
     sym (row-missing (a .kind) (a .w) (a .at) (a .bytes .now) (rw (e, k) at (c .if2 .taken)))
 
--- src/scan.rt:82:15
-add-t11 : tie.Need-add-t11
-add-t11 c = search needs
-
--- src/scan.rt:67:1
 returns-3 : tie.Need-returns-3
 unfolding rowBytes
 returns-3 c =
@@ -83,13 +57,13 @@ pub row-at-spec : {M : Type 1} → statement M
 row-at-spec =
     tie.close
     (tie.spec
-    sub-left
-    count-bytes-requires
+    (λ c. search needs)  -- sub-left
+    (λ c κs. search needs)  -- count-bytes-requires
     returns
-    count-at-requires
+    (λ c κs. search needs)  -- count-at-requires
     mul-size
     add-size
     add-size-2
     returns-2
-    add-t11
+    (λ c. search needs)  -- add-t11
     returns-3)

@@ -4,26 +4,13 @@ use Rattle.link_lines.proofs.Lining.{ended-short, ended-first, ended-mo
 use borrow.Author.Needs.{needs}
 use Rattle.link_lines.proofs.lines.write_answer_line.Statement.{statement}
 use Rattle.link_lines.proofs.lines.write_answer_line.Tie as tie
-use Rattle.link_lines.proofs.lines.write_answer_line.Reads as reads
-use Rattle.link_lines.proofs.lines.write_answer_line.Lts as lts
-use Rattle.link_lines.proofs.lines.write_ended.Reads as write-ended-reads
 
--- src/lines.rt:54:9
-write-ended-requires : tie.Need-write-ended-requires
-write-ended-requires c κs = search needs
-
--- src/lines.rt:55:5
 write-ended-requires-2 : tie.Need-write-ended-requires-2
 write-ended-requires-2 c κs =
     let a = c .before .before .before .before .before .before .args in
     let f = ended-short (a .number) space in
     search needs
 
--- src/lines.rt:49:1
-same-length : tie.Need-same-length
-same-length c = search needs
-
--- src/lines.rt:49:1
 returns : tie.Need-returns
 returns c =
     let s = c .before .before .before .before .before .before .before .before .before in
@@ -37,4 +24,4 @@ returns c =
 
 pub write-answer-line-spec : {M : Type 1} → statement M
 write-answer-line-spec =
-    tie.close (tie.spec write-ended-requires write-ended-requires-2 same-length returns)
+    tie.close (tie.spec (λ c κs. search needs) write-ended-requires-2 (λ c. search needs) returns)

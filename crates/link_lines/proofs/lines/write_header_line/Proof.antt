@@ -4,27 +4,13 @@ use Rattle.link_lines.proofs.Lining.{told-first, ended-short, ended-mor
 use borrow.Author.Needs.{needs}
 use Rattle.link_lines.proofs.lines.write_header_line.Statement.{statement}
 use Rattle.link_lines.proofs.lines.write_header_line.Tie as tie
-use Rattle.link_lines.proofs.lines.write_header_line.Reads as reads
-use Rattle.link_lines.proofs.lines.write_header_line.Lts as lts
-use Rattle.link_lines.proofs.lines.write_ended.Reads as write-ended-reads
-use Rattle.link_lines.proofs.lines.write_mark.Reads as write-mark-reads
 
--- src/lines.rt:41:9
-write-mark-requires : tie.Need-write-mark-requires
-write-mark-requires c κs = search needs
-
--- src/lines.rt:42:9
-write-ended-requires : tie.Need-write-ended-requires
-write-ended-requires c κs = search needs
-
--- src/lines.rt:43:9
 write-ended-requires-2 : tie.Need-write-ended-requires-2
 write-ended-requires-2 c κs =
     let a = c .before .before .before .before .before .before .before .before .before .before .args in
     let f = ended-short (a .version) space in
     search needs
 
--- src/lines.rt:44:9
 write-ended-requires-3 : tie.Need-write-ended-requires-3
 write-ended-requires-3 c κs =
     let a = c .before .before .before .before .before .before .before .before .before .before .before .before .before .before .args in
@@ -32,7 +18,6 @@ write-ended-requires-3 c κs =
     let g = ended-short (a .kind) space in
     search needs
 
--- src/lines.rt:45:5
 write-ended-requires-4 : tie.Need-write-ended-requires-4
 write-ended-requires-4 c κs =
     let a = c .before .before .before .before .before .before .before .before .before .before .before .before .before .before .before .before .before .before .args in
@@ -41,11 +26,6 @@ write-ended-requires-4 c κs =
     let h = ended-short (a .n) space in
     search needs
 
--- src/lines.rt:36:1
-same-length : tie.Need-same-length
-same-length c = search needs
-
--- src/lines.rt:36:1
 returns : tie.Need-returns
 returns c =
     let s = c .before .before .before .before .before .before .before .before .before .before .before .before .before .before .before .before .before .before .before .before .before in
@@ -70,10 +50,10 @@ pub write-header-line-spec : {M : Type 1} → statement M
 write-header-line-spec =
     tie.close
     (tie.spec
-    write-mark-requires
-    write-ended-requires
+    (λ c κs. search needs)  -- write-mark-requires
+    (λ c κs. search needs)  -- write-ended-requires
     write-ended-requires-2
     write-ended-requires-3
     write-ended-requires-4
-    same-length
+    (λ c. search needs)  -- same-length
     returns)

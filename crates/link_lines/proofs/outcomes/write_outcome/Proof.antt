@@ -1,27 +1,8 @@
-use Rattle.link_file.proofs.Texts.{retold, refused-text, solved-text, values-room, values-told}
-use native.Mathlib.Omega.{arith}
+use Rattle.link_lines.proofs.Telling.{retold, refused-text, solved-text, values-room, values-told}
 use borrow.Author.Needs.{needs}
-use Rattle.link_file.proofs.telling.write_outcome.Statement.{statement}
-use Rattle.link_file.proofs.telling.write_outcome.Tie as tie
-use Rattle.link_file.proofs.telling.write_outcome.Reads as reads
-use Rattle.link_file.proofs.telling.write_outcome.Lts as lts
-use Rattle.answers.proofs.Answer.number.Reads as number-reads
-use Rattle.link_file.proofs.telling.write_refusal.Reads as write-refusal-reads
-use Rattle.link_lines.proofs.write_values.Reads as write-values-reads
+use Rattle.link_lines.proofs.outcomes.write_outcome.Statement.{statement}
+use Rattle.link_lines.proofs.outcomes.write_outcome.Tie as tie
 
--- src/telling.rt:34:9
-write-refusal-requires : tie.Need-write-refusal-requires
-write-refusal-requires c κs = search needs
-
--- src/telling.rt:35:9
-number-requires : tie.Need-number-requires
-number-requires c κs = search needs
-
--- src/telling.rt:37:9
-same-length : tie.Need-same-length
-same-length c = search needs
-
--- src/telling.rt:37:9
 returns : tie.Need-returns
 returns c =
     let s = c .before .before .before .before .before .before .before .before in
@@ -30,7 +11,6 @@ returns c =
     let number = c .before .number in
     retold (a .at) (c .before .before .before .before .write-refusal .result) (a .out .now) _ (refused-text (a .answer) (a .values .now) (number .result) (number .ensures) (c .if1 .taken)) (e .0) (e .1)
 
--- src/telling.rt:39:5
 write-values-requires : tie.Need-write-values-requires
 write-values-requires c κs =
     let s = c .before .before .before .before .before .before .before .before .before in
@@ -38,11 +18,6 @@ write-values-requires c κs =
     let e = c .before .before .before .before .before .write-refusal .ensures in
     values-room (a .answer) (a .values .now) (a .out .now) (a .at) (c .before .before .before .before .before .write-refusal .result) _ (s .pre) (e .0) (e .1)
 
--- src/telling.rt:29:1
-same-length-2 : tie.Need-same-length-2
-same-length-2 c = search needs
-
--- src/telling.rt:29:1
 returns-2 : tie.Need-returns-2
 returns-2 c =
     let s = c .before .before .before .before .before .before .before .before .before .before .before .before in
@@ -57,10 +32,10 @@ pub write-outcome-spec : {M : Type 1} → statement M
 write-outcome-spec =
     tie.close
     (tie.spec
-    write-refusal-requires
-    number-requires
-    same-length
+    (λ c κs. search needs)  -- write-refusal-requires
+    (λ c κs. search needs)  -- number-requires
+    (λ c. search needs)  -- same-length
     returns
     write-values-requires
-    same-length-2
+    (λ c. search needs)  -- same-length-2
     returns-2)

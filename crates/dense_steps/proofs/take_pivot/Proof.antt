@@ -5,11 +5,11 @@ use mathlib.Core.List.{List}
 use Prim.Native.Nat.{ℕ, _/_}
 use native.Mathlib.Omega.{arith}
 use borrow.Author.Needs.{needs}
 use Rattle.dense_rows.specs.Rows.{held, Became}
 use Rattle.dense_rows.specs.Steps.{swapRows, clearBelow}
-use Rattle.dense_rows.proofs.Clearing.{became-then, became-same}
-use Rattle.dense_rows.proofs.steps.take_pivot.Statement.{statement}
-use Rattle.dense_rows.proofs.steps.take_pivot.Tie as tie
+use Rattle.dense_steps.proofs.Clearing.{became-then, became-same}
+use Rattle.dense_steps.proofs.take_pivot.Statement.{statement}
+use Rattle.dense_steps.proofs.take_pivot.Tie as tie
 
 brought : (c : tie.Joined1) → let s = c .before .before in
     Became (s .args .m) (s .args .w) (s .args .words .now) (swapRows (s .args .col / 64) (s .args .rank) (s .args .pivot) (held (s .args .m) (s .args .w) (s .args .words .now))) (c .if1 .words)

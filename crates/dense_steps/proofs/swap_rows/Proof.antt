@@ -1,9 +1,9 @@
 -- The two exchanges, lifted to rows.
 use native.Mathlib.Omega.{arith}
 use borrow.Author.Needs.{needs}
-use Rattle.dense_rows.proofs.AreaSteps.{two-rows, swapped-became}
-use Rattle.dense_rows.proofs.steps.swap_rows.Statement.{statement}
-use Rattle.dense_rows.proofs.steps.swap_rows.Tie as tie
+use Rattle.dense_steps.proofs.AreaSteps.{two-rows, swapped-became}
+use Rattle.dense_steps.proofs.swap_rows.Statement.{statement}
+use Rattle.dense_steps.proofs.swap_rows.Tie as tie
 
 returns : tie.Need-returns
 returns c =

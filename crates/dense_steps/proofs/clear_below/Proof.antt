@@ -2,10 +2,10 @@
 use Prim.Native.Nat.{_-_}
 use native.Mathlib.Omega.{arith}
 use borrow.Author.Needs.{needs}
 use Rattle.dense_rows.proofs.BitTest.{column-of}
-use Rattle.dense_rows.proofs.Clearing.{Clearing, clearing-begin, clearing-place, clearing-skip, clearing-turn, clearing-end}
-use Rattle.dense_rows.proofs.steps.clear_below.Statement.{statement}
-use Rattle.dense_rows.proofs.steps.clear_below.Tie as tie
+use Rattle.dense_steps.proofs.Clearing.{Clearing, clearing-begin, clearing-place, clearing-skip, clearing-turn, clearing-end}
+use Rattle.dense_steps.proofs.clear_below.Statement.{statement}
+use Rattle.dense_steps.proofs.clear_below.Tie as tie
 
 abbrev Inv-loop : tie.InvT-loop
 Inv-loop words₀ m w col rank word bit i₀ words i = Clearing words₀ m w col rank word bit i words

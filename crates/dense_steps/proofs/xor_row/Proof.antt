@@ -1,9 +1,9 @@
 -- The two XORs, lifted to rows.
 use native.Mathlib.Omega.{arith}
 use borrow.Author.Needs.{needs}
-use Rattle.dense_rows.proofs.AreaSteps.{two-rows, xored-became}
-use Rattle.dense_rows.proofs.steps.xor_row.Statement.{statement}
-use Rattle.dense_rows.proofs.steps.xor_row.Tie as tie
+use Rattle.dense_steps.proofs.AreaSteps.{two-rows, xored-became}
+use Rattle.dense_steps.proofs.xor_row.Statement.{statement}
+use Rattle.dense_steps.proofs.xor_row.Tie as tie
 
 returns : tie.Need-returns
 returns c =

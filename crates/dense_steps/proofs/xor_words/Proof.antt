@@ -2,9 +2,9 @@
 use Prim.Native.Nat.{_-_}
 use native.Mathlib.Omega.{arith}
 use borrow.Author.Needs.{needs}
-use Rattle.dense_rows.proofs.Xoring.{Xoring, xoring-begin, xoring-turn, xoring-end}
-use Rattle.dense_rows.proofs.steps.xor_words.Statement.{statement}
-use Rattle.dense_rows.proofs.steps.xor_words.Tie as tie
+use Rattle.dense_steps.proofs.Xoring.{Xoring, xoring-begin, xoring-turn, xoring-end}
+use Rattle.dense_steps.proofs.xor_words.Statement.{statement}
+use Rattle.dense_steps.proofs.xor_words.Tie as tie
 
 abbrev Inv-loop : tie.InvT-loop
 Inv-loop words₀ from to n k₀ words k = Xoring words₀ from to n k words

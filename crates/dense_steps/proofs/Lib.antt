@@ -1,0 +1,3 @@
+pub mod AreaSteps
+pub mod Xoring
+pub mod Clearing
