@@ -1,11 +1,13 @@
 // The graph takes an edge in.
 ghost use mathlib.Core.Path.{_≡_};
 ghost use Prim.Native.Nat.{_<_};
+ghost use mathlib.Core.Bool.{cond};
 ghost use lib.ListN.{length};
+ghost use lib.Dec.{ltb};
 ghost use Rattle.answers.specs.Sizes.{maxEquations};
-ghost use Rattle.peeling.specs.Graph.{graphOf, add};
+ghost use Rattle.peeling.specs.Graph.{graphOf};
 ghost use Rattle.peel_rules.specs.Edges.{Valid};
-ghost use Rattle.peel_rules.specs.Machine.{addEdge, noted, notedEdge};
+ghost use Rattle.peel_rules.specs.Machine.{addEdge, notedEdge};
 use crate::index::wide;
 use peeling::incidence::add_at;
 use peeling::numbers::Edge;
@@ -18,24 +20,22 @@ pub fn add_edge(numbers: &mut [u32], bytes: &mut [u8], i: usize, e: Edge, low: u
     ensures { λ r. ⌜ (r ≡ notedEdge (graphOf (now (numbers .entry)) (now (bytes .entry))) i e low) × (graphOf (now (numbers .exit)) (now (bytes .exit)) ≡ addEdge (graphOf (now (numbers .entry)) (now (bytes .entry))) i e) ⌝ }
 {
     let x = EdgeNo(i as u32);
-    let one = add_noted(numbers, bytes, e.a, x, 0, low);
-    let two = add_noted(numbers, bytes, e.b, x, 1, one);
-    add_noted(numbers, bytes, e.c, x, 2, two)
+    let a = add_at(numbers, bytes, e.a, x, 0);
+    let b = add_at(numbers, bytes, e.b, x, 1);
+    let c = add_at(numbers, bytes, e.c, x, 2);
+    // Seldom so: an edge pays for one test.
+    if a | (b | c) {
+        let one = lower(a, e.a, low);
+        let two = lower(b, e.b, one);
+        return lower(c, e.c, two);
+    }
+    low
 }
 
-fn add_noted(
-    numbers: &mut [u32],
-    bytes: &mut [u8],
-    v: Vertex,
-    x: EdgeNo,
-    side: u8,
-    low: usize,
-) -> usize
-    requires { ⌜ (v .0 < length (now numbers)) × (v .0 < length (now bytes)) ⌝ }
-    ensures { λ r. ⌜ r ≡ noted (graphOf (now (numbers .entry)) (now (bytes .entry))) (v .0) low ⌝ }
-    ensures graph { λ _. ⌜ graphOf (now (numbers .exit)) (now (bytes .exit)) ≡ add (graphOf (now (numbers .entry)) (now (bytes .entry))) (v .0) (x .0) side ⌝ }
+// The vertex, if it came to its 64th incidence and is lower.
+fn lower(over: bool, v: Vertex, low: usize) -> usize
+    ensures { λ r. ⌜ r ≡ cond over (cond (ltb (v .0) low) (v .0) low) low ⌝ }
 {
-    let over = add_at(numbers, bytes, v, x, side);
     let i = wide(v.0);
     if over {
         if i < low {

@@ -1,48 +1,79 @@
-use Rattle.peel_steps.proofs.BuildLaws.{edge-added}
+use Rattle.peel_steps.proofs.BuildLaws.{edge-added, edge-noted, none-noted}
 use native.Mathlib.Omega.{arith}
 use borrow.Author.Needs.{needs}
 use Rattle.peel_steps.proofs.building.add_edge.Statement.{statement}
 use Rattle.peel_steps.proofs.building.add_edge.Tie as tie
 use Rattle.peel_steps.proofs.building.add_edge.Reads as reads
 use Rattle.peel_steps.proofs.building.add_edge.Lts as lts
-use Rattle.peel_steps.proofs.building.add_noted.Reads as add-noted-reads
+use Rattle.peel_steps.proofs.building.lower.Reads as lower-reads
+use Rattle.peeling.proofs.incidence.add_at.Reads as add-at-reads
 
--- src/building.rt:18:20
-cast-t9 : tie.Need-cast-t9
-cast-t9 c = search needs
+-- src/building.rt:22:20
+cast-t12 : tie.Need-cast-t12
+cast-t12 c = search needs
 
--- src/building.rt:19:9
-add-noted-requires : tie.Need-add-noted-requires
-add-noted-requires c κs = search needs
+-- src/building.rt:23:9
+add-at-requires : tie.Need-add-at-requires
+add-at-requires c κs = search needs
 
--- src/building.rt:20:9
-add-noted-requires-2 : tie.Need-add-noted-requires-2
-add-noted-requires-2 c κs = search needs
+-- src/building.rt:24:9
+add-at-requires-2 : tie.Need-add-at-requires-2
+add-at-requires-2 c κs = search needs
 
--- src/building.rt:21:5
-add-noted-requires-3 : tie.Need-add-noted-requires-3
-add-noted-requires-3 c κs = search needs
+-- src/building.rt:25:9
+add-at-requires-3 : tie.Need-add-at-requires-3
+add-at-requires-3 c κs = search needs
 
--- src/building.rt:13:1
+-- src/building.rt:28:13
+lower-requires : tie.Need-lower-requires
+lower-requires c κs = search needs
+
+-- src/building.rt:29:13
+lower-requires-2 : tie.Need-lower-requires-2
+lower-requires-2 c κs = search needs
+
+-- src/building.rt:30:9
+lower-requires-3 : tie.Need-lower-requires-3
+lower-requires-3 c κs = search needs
+
+-- src/building.rt:30:9
 same-length : tie.Need-same-length
 same-length c = search needs
 
--- src/building.rt:13:1
+-- src/building.rt:30:9
 same-length-2 : tie.Need-same-length-2
 same-length-2 c = search needs
 
--- src/building.rt:13:1
+-- src/building.rt:30:9
 returns : tie.Need-returns
-returns c = edge-added _ _ _ _ _ _ _ _ _ _ (c .before .before .before .before .before .before .before .before .before .before .before .before .before .before .before .before .before .before .add-noted .ensures .0) (c .before .before .before .before .before .before .before .before .before .before .before .before .before .before .before .before .before .before .add-noted .ensures .1) (c .before .before .before .before .before .before .before .before .before .before .before .add-noted2 .ensures .0) (c .before .before .before .before .before .before .before .before .before .before .before .add-noted2 .ensures .1) (c .before .before .before .before .add-noted3 .ensures .0) (c .before .before .before .before .add-noted3 .ensures .1)
+returns c = (edge-noted _ _ _ _ _ _ _ (c .before .before .before .before .before .before .before .before .before .before .before .before .before .before .before .before .before .before .before .before .before .before .add-at .ensures .0) (c .before .before .before .before .before .before .before .before .before .before .before .before .before .before .before .before .before .before .before .before .before .before .add-at .ensures .1) (c .before .before .before .before .before .before .before .before .before .before .before .before .before .before .before .add-at2 .ensures .0) (c .before .before .before .before .before .before .before .before .before .before .before .before .before .before .before .add-at2 .ensures .1) (c .before .before .before .before .before .before .before .before .add-at3 .ensures .0) (c .before .before .before .before .before .before .before .before .add-at3 .ensures .1) _ _ _ (c .before .before .lower .ensures) (c .before .lower2 .ensures) (c .lower3 .ensures), edge-added _ _ _ _ _ _ (c .before .before .before .before .before .before .before .before .before .before .before .before .before .before .before .before .before .before .before .before .before .before .before .before .before .before .before .args .low) (c .before .before .before .before .before .before .before .before .before .before .before .before .before .before .before .before .before .before .before .before .before .before .add-at .ensures .0) (c .before .before .before .before .before .before .before .before .before .before .before .before .before .before .before .before .before .before .before .before .before .before .add-at .ensures .1) (c .before .before .before .before .before .before .before .before .before .before .before .before .before .before .before .add-at2 .ensures .0) (c .before .before .before .before .before .before .before .before .before .before .before .before .before .before .before .add-at2 .ensures .1) (c .before .before .before .before .before .before .before .before .add-at3 .ensures .0) (c .before .before .before .before .before .before .before .before .add-at3 .ensures .1))
+
+-- src/building.rt:18:1
+same-length-3 : tie.Need-same-length-3
+same-length-3 c = search needs
+
+-- src/building.rt:18:1
+same-length-4 : tie.Need-same-length-4
+same-length-4 c = search needs
+
+-- src/building.rt:18:1
+returns-2 : tie.Need-returns-2
+returns-2 c = (none-noted _ _ _ _ _ _ _ (c .before .before .before .before .before .before .before .before .before .before .before .before .before .before .before .before .before .before .before .add-at .ensures .0) (c .before .before .before .before .before .before .before .before .before .before .before .before .before .before .before .before .before .before .before .add-at .ensures .1) (c .before .before .before .before .before .before .before .before .before .before .before .before .add-at2 .ensures .0) (c .before .before .before .before .before .before .before .before .before .before .before .before .add-at2 .ensures .1) (c .before .before .before .before .before .add-at3 .ensures .0) (c .before .before .before .before .before .add-at3 .ensures .1) (c .if1 .left), edge-added _ _ _ _ _ _ (c .before .before .before .before .before .before .before .before .before .before .before .before .before .before .before .before .before .before .before .before .before .before .before .before .args .low) (c .before .before .before .before .before .before .before .before .before .before .before .before .before .before .before .before .before .before .before .add-at .ensures .0) (c .before .before .before .before .before .before .before .before .before .before .before .before .before .before .before .before .before .before .before .add-at .ensures .1) (c .before .before .before .before .before .before .before .before .before .before .before .before .add-at2 .ensures .0) (c .before .before .before .before .before .before .before .before .before .before .before .before .add-at2 .ensures .1) (c .before .before .before .before .before .add-at3 .ensures .0) (c .before .before .before .before .before .add-at3 .ensures .1))
 
 pub add-edge-spec : {M : Type 1} → statement M
 add-edge-spec =
     tie.close
     (tie.spec
-    cast-t9
-    add-noted-requires
-    add-noted-requires-2
-    add-noted-requires-3
+    cast-t12
+    add-at-requires
+    add-at-requires-2
+    add-at-requires-3
+    lower-requires
+    lower-requires-2
+    lower-requires-3
     same-length
     same-length-2
-    returns)
+    returns
+    same-length-3
+    same-length-4
+    returns-2)
