@@ -54,6 +54,7 @@ leaves-at room n k h = getD-take n (cleared room (replicate n mark)) k 0 h ∙ g
         ap (λ (i : ℕ). getD (replicate room 0 ++ drop room (replicate n mark)) (i + j) 0) (sym (length-replicate room 0))
         ∙ (getD-append-add (replicate room 0) (drop room (replicate n mark)) j 0
         ∙ (getD-drop room (replicate n mark) j 0 ∙ getD-replicate n (room + j) mark 0 l))
+
     go : (t : Bool) → ltb k room ≡ t → getD (replicate room 0 ++ drop room (replicate n mark)) k 0 ≡ zeroOr t mark
     go true e =
         let l = ltb-true k room e in
