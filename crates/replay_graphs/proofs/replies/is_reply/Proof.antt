@@ -4,6 +4,7 @@ use mathlib.Core.Path.{sym}
 use lib.ListN.{length}
 use borrow.Author.Needs.{needs}
 use borrow.Author.Tests.{le-leb, lt-leb, eq-eqb, ne-eqb}
+use Rattle.replay_graphs.proofs.Replying.{third-decides}
 use Rattle.replay_graphs.proofs.replies.is_reply.Statement.{statement}
 use Rattle.replay_graphs.proofs.replies.is_reply.Tie as tie
 
@@ -32,14 +33,10 @@ returns-4 c =
 returns-5 : tie.Need-returns-5
 returns-5 c =
     let a = c .before .before .before .before .before .before .before .before .before .before .before .args in
-    simp (
-      le-leb (a .at + 3) (length (a .replies .now)) (omega arith),
-      sym (c .before .before .before .before .before .before .before .number-at .ensures),
-      eq-eqb _ _ (c .before .before .before .before .before .if3 .left),
-      sym (c .before .before .before .before .number-at2 .ensures),
-      eq-eqb _ _ (c .before .before .if4 .left),
-      sym (c .before .number-at3 .ensures),
-    )
+    let third = c .before .number-at3 .ensures in
+    let second = c .before .before .before .before .number-at2 .ensures in
+    let first = c .before .before .before .before .before .before .before .number-at .ensures in
+    third-decides (a .reply) (a .replies .now) (a .at) _ _ _ (omega arith) first second third (c .before .before .before .before .before .if3 .left) (c .before .before .if4 .left)
 
 pub is-reply-spec : {M : Type 1} → statement M
 is-reply-spec =

@@ -1,16 +1,17 @@
-use mathlib.Core.Path.{refl}
+use mathlib.Core.Path.{ap, sym, _∙_}
 use borrow.Author.Needs.{needs}
+use Rattle.replay_graphs.specs.Replies.{poppedReply}
 use Rattle.replay_graphs.proofs.replies.popped.Statement.{statement}
 use Rattle.replay_graphs.proofs.replies.popped.Tie as tie
 
 returns : tie.Need-returns
-returns c = rw (c .before .before .before .match .keys1) (c .valued .ensures)
+returns c = c .valued .ensures ∙ sym (ap poppedReply (c .before .before .got .given .1))
 
 returns-2 : tie.Need-returns-2
-returns-2 c = rw (c .before .match .keys2)
+returns-2 c = sym (ap poppedReply (c .enum-told .given .1))
 
 returns-3 : tie.Need-returns-3
-returns-3 c = rw (c .before .before .before .match .keys3) (c .told .ensures)
+returns-3 c = c .told .ensures ∙ sym (ap poppedReply (c .before .before .got2 .given .1))
 
 pub popped-spec : {M : Type 1} → statement M
 popped-spec =
