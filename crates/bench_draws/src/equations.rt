@@ -2,6 +2,7 @@
 ghost use mathlib.Core.Path.{_≡_};
 ghost use Prim.Native.Nat.{_+_, _*_, _≤_, _<_};
 ghost use lib.ListN.{length};
+ghost use Rattle.bench_draws.specs.Draws.{after, valuesOf, spoilt, spoiltSeed};
 use crate::random::below;
 use crate::random::draw;
 use crate::random::least;
@@ -9,6 +10,7 @@ use crate::random::least;
 // Values of `bits` bits at most.
 pub fn draw_values(seed: &mut u64, bits: u32, values: &mut [u64])
     requires { ⌜ (0 < bits) × (bits ≤ 64) ⌝ }
+    ensures { λ _. ⌜ (now (values .exit) ≡ valuesOf bits (length (now (values .entry))) (now (seed .entry))) × (now (seed .exit) ≡ after (length (now (values .entry))) (now (seed .entry))) ⌝ }
 {
     let mut i = 0;
     while i < values.len() {
@@ -118,6 +120,7 @@ pub fn draw_equations(
 // Another bit in one of the m constants.
 pub fn spoil(seed: &mut u64, m: usize, constants: &mut [u64])
     requires { ⌜ m ≤ length (now constants) ⌝ }
+    ensures { λ _. ⌜ (now (constants .exit) ≡ spoilt m (now (seed .entry)) (now (constants .entry))) × (now (seed .exit) ≡ spoiltSeed m (now (seed .entry))) ⌝ }
 {
     if m == 0 {
         return;

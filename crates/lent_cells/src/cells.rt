@@ -1,28 +1,26 @@
 // The cells that a call left.
 ghost use mathlib.Core.Path.{_≡_};
-ghost use mathlib.Core.Bool.{true};
-ghost use Prim.Native.Nat.{ℕ, _<_};
-ghost use lib.ListN.{length, getD, replicate};
-ghost use Rattle.lent_cells.specs.Cells.{mark, leftAt, Left};
+ghost use lib.ListN.{length, replicate};
+ghost use Rattle.lent_cells.specs.Cells.{mark, leftAt, sameCells, leftCells};
 
 // What every lent cell holds before a call.
 pub const MARK: u64 = 165;
 
 // Cells to lend.
 pub fn marked_numbers() -> [u32; 65536]
-    ensures { λ r. ⌜ 65536 ≡ length r ⌝ }
+    ensures { λ r. ⌜ r ≡ replicate 65536 mark ⌝ }
 {
     [165; 65536]
 }
 
 pub fn marked_words() -> [u64; 1024]
-    ensures { λ r. ⌜ 1024 ≡ length r ⌝ }
+    ensures { λ r. ⌜ r ≡ replicate 1024 mark ⌝ }
 {
     [165; 1024]
 }
 
 pub fn marked_bytes() -> [u8; 1024]
-    ensures { λ r. ⌜ 1024 ≡ length r ⌝ }
+    ensures { λ r. ⌜ r ≡ replicate 1024 mark ⌝ }
 {
     [165; 1024]
 }
@@ -80,9 +78,9 @@ fn left_at(i: usize, room: usize) -> u64
     MARK
 }
 
-// Says yes only where the room is zero and the remainder as it was lent.
+// Whether the room is zero and the remainder as it was lent.
 pub fn left_numbers(cells: &[u32], room: usize) -> bool
-    ensures { λ r. ⌜ (r ≡ true → Left room (now (cells .entry))) ⌝ }
+    ensures { λ r. ⌜ r ≡ leftCells room (now (cells .entry)) ⌝ }
 {
     let mut i = 0;
     while i < cells.len() {
@@ -94,9 +92,9 @@ pub fn left_numbers(cells: &[u32], room: usize) -> bool
     true
 }
 
-// Says yes only where the room is zero and the remainder as it was lent.
+// Whether the room is zero and the remainder as it was lent.
 pub fn left_words(cells: &[u64], room: usize) -> bool
-    ensures { λ r. ⌜ (r ≡ true → Left room (now (cells .entry))) ⌝ }
+    ensures { λ r. ⌜ r ≡ leftCells room (now (cells .entry)) ⌝ }
 {
     let mut i = 0;
     while i < cells.len() {
@@ -108,9 +106,9 @@ pub fn left_words(cells: &[u64], room: usize) -> bool
     true
 }
 
-// Says yes only where the room is zero and the remainder as it was lent.
+// Whether the room is zero and the remainder as it was lent.
 pub fn left_bytes(cells: &[u8], room: usize) -> bool
-    ensures { λ r. ⌜ (r ≡ true → Left room (now (cells .entry))) ⌝ }
+    ensures { λ r. ⌜ r ≡ leftCells room (now (cells .entry)) ⌝ }
 {
     let mut i = 0;
     while i < cells.len() {
@@ -122,9 +120,9 @@ pub fn left_bytes(cells: &[u8], room: usize) -> bool
     true
 }
 
-// Says yes only where both hold the same.
+// Whether both hold the same.
 pub fn same_words(a: &[u64], b: &[u64]) -> bool
-    ensures { λ r. ⌜ (r ≡ true → now (a .entry) ≡ now (b .entry)) ⌝ }
+    ensures { λ r. ⌜ r ≡ sameCells (now (a .entry)) (now (b .entry)) ⌝ }
 {
     if a.len() != b.len() {
         return false;
@@ -139,9 +137,9 @@ pub fn same_words(a: &[u64], b: &[u64]) -> bool
     true
 }
 
-// Says yes only where both hold the same.
+// Whether both hold the same.
 pub fn same_numbers(a: &[u32], b: &[u32]) -> bool
-    ensures { λ r. ⌜ (r ≡ true → now (a .entry) ≡ now (b .entry)) ⌝ }
+    ensures { λ r. ⌜ r ≡ sameCells (now (a .entry)) (now (b .entry)) ⌝ }
 {
     if a.len() != b.len() {
         return false;

@@ -1,9 +1,9 @@
 // A case by its kind.
 use libc::STDIN_FILENO;
 use replay_cases::said::Verdict;
-use replay_peels::graphs::graph_case;
+use replay_graphs::graphs::graph_case;
+use replay_graphs::pushes::stack_case;
 use replay_peels::peels::peel_case;
-use replay_peels::pushes::stack_case;
 use replay_solvers::checks::check_case;
 use replay_solvers::denses::dense_case;
 use replay_solvers::sums::sum_case;

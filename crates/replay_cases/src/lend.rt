@@ -4,10 +4,9 @@ use crate::said::refuses;
 use lent_cells::cells::left_words;
 use lent_cells::cells::same_words;
 ghost use mathlib.Core.Path.{_≡_};
-ghost use mathlib.Core.Bool.{true};
-ghost use Prim.Native.Nat.{_≤_};
+ghost use Prim.Native.Nat.{_-_, _≤_};
 ghost use Rattle.replay_cases.specs.Judged.{plainly};
-ghost use Rattle.replay_cases.specs.Lent.{Lendable, lacking, wantedFor, zerosAfter, SolutionLeft};
+ghost use Rattle.replay_cases.specs.Lent.{Lendable, noRoom, lengthsFor, lentFor, lacking, wantedFor, zerosAfter, solutionLeft};
 
 // Cells of the solution, of the numbers, and of the words or bytes.
 pub struct Room {
@@ -20,7 +19,7 @@ pub struct Room {
 pub const WAYS: usize = 5;
 
 fn one_less(x: usize) -> usize
-    ensures { λ r. ⌜ r ≤ x ⌝ }
+    ensures { λ r. ⌜ r ≡ x - 1 ⌝ }
 {
     if x == 0 {
         return 0;
@@ -30,6 +29,7 @@ fn one_less(x: usize) -> usize
 
 // The lengths to lend.
 pub fn lent_as(way: usize, room: Room) -> Room
+    ensures { λ r. ⌜ r ≡ lentFor way room ⌝ }
     ensures { λ r. ⌜ Lendable r ⌝ }
 {
     if 1021 < room.solution {
@@ -45,7 +45,7 @@ pub fn lent_as(way: usize, room: Room) -> Room
 }
 
 fn nothing() -> Room
-    ensures { λ r. ⌜ Lendable r ⌝ }
+    ensures { λ r. ⌜ r ≡ noRoom ⌝ }
 {
     Room {
         solution: 0,
@@ -56,7 +56,7 @@ fn nothing() -> Room
 
 fn lengths(way: usize, room: Room) -> Room
     requires { ⌜ (room .solution ≤ 1021) × (room .numbers ≤ 65533) × (room .others ≤ 1021) ⌝ }
-    ensures { λ r. ⌜ Lendable r ⌝ }
+    ensures { λ r. ⌜ r ≡ lengthsFor way room ⌝ }
 {
     if way == 1 {
         return Room {
@@ -138,9 +138,9 @@ pub fn zeros_after(number: u64, room: usize) -> usize
     room
 }
 
-// Says yes only where the solution is the expected one after 0, and as it was lent after every other number.
+// Whether the solution is the expected one after 0, and as it was lent after every other number.
 pub fn solution_left(number: u64, solution: &[u64], expected: &[u64]) -> bool
-    ensures { λ r. ⌜ (r ≡ true → SolutionLeft number (now (solution .entry)) (now (expected .entry))) ⌝ }
+    ensures { λ r. ⌜ r ≡ solutionLeft number (now (solution .entry)) (now (expected .entry)) ⌝ }
 {
     if number == 0 {
         return same_words(solution, expected);

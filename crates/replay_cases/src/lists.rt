@@ -1,9 +1,10 @@
 // A case is lists of numbers: the bytes of one number (a byte), how many there are (two bytes), then the numbers; the low byte first.
 use link_form::read_number;
 ghost use mathlib.Core.Path.{_≡_};
-ghost use Prim.Native.Nat.{_≤_};
+ghost use Prim.Native.Nat.{_≤_, _<_};
 ghost use lib.ListN.{length};
 ghost use Rattle.io.specs.Counts.{Counts};
+ghost use Rattle.replay_cases.specs.Lists.{noList, wholeList, headAt, missing, loadedOf, cellsOf};
 
 // How many numbers were read, and where the next list begins: past every end where the list was broken.
 pub struct Loaded {
@@ -18,8 +19,8 @@ pub struct ListHead {
 }
 
 // Of a list that is not there, so that no list after it is there either.
-pub fn broken() -> Loaded
-    ensures { λ r. ⌜ r .count ≡ 0 ⌝ }
+fn broken() -> Loaded
+    ensures { λ r. ⌜ r ≡ missing ⌝ }
 {
     Loaded {
         count: 0,
@@ -28,7 +29,7 @@ pub fn broken() -> Loaded
 }
 
 fn no_list(end: usize) -> ListHead
-    ensures { λ r. ⌜ (r .at ≤ end) × (r .width ≤ 8) ⌝ }
+    ensures { λ r. ⌜ r ≡ noList end ⌝ }
 {
     ListHead {
         width: 0,
@@ -37,8 +38,22 @@ fn no_list(end: usize) -> ListHead
     }
 }
 
+// The list whose numbers begin at `at`, if all of them are there.
+fn whole_list(width: usize, count: usize, at: usize, end: usize) -> ListHead
+    requires { ⌜ (width < 256) × (count < 65536) × (at ≤ end) ⌝ }
+    ensures { λ r. ⌜ r ≡ wholeList width count at end ⌝ }
+{
+    if 8 < width {
+        return no_list(end);
+    }
+    if end - at < count * width {
+        return no_list(end);
+    }
+    ListHead { width, count, at }
+}
+
 fn head_at(bytes: &[u8], at: usize) -> ListHead
-    ensures { λ r. ⌜ (r .at ≤ length (now (bytes .entry))) × (r .width ≤ 8) ⌝ }
+    ensures { λ r. ⌜ r ≡ headAt at (now (bytes .entry)) ⌝ }
 {
     let end = bytes.len();
     if end < at {
@@ -48,19 +63,14 @@ fn head_at(bytes: &[u8], at: usize) -> ListHead
         return no_list(end);
     }
     let width = read_number(bytes, at, 1) as usize;
-    if 8 < width {
-        return no_list(end);
-    }
     let count = read_number(bytes, at + 1, 2) as usize;
-    ListHead {
-        width,
-        count,
-        at: at + 3,
-    }
+    whole_list(width, count, at + 3, end)
 }
 
-// Reads the list at `at` to the front of `out`.
+// Reads the list at `at` to the front of `out`, which stays as it is where there is no such list or no room for it.
 pub fn load_words(bytes: &[u8], at: usize, out: &mut [u64]) -> Loaded
+    ensures { λ r. ⌜ r ≡ loadedOf 8 (length (now (out .entry))) (headAt at (now (bytes .entry))) ⌝ }
+    ensures { λ _. ⌜ now (out .exit) ≡ cellsOf 8 (headAt at (now (bytes .entry))) (now (bytes .entry)) (now (out .entry)) ⌝ }
     ensures { λ r. ⌜ Counts (r .count) (now (out .exit)) ⌝ }
 {
     let head = head_at(bytes, at);
@@ -72,9 +82,6 @@ pub fn load_words(bytes: &[u8], at: usize, out: &mut [u64]) -> Loaded
     let mut p = head.at;
     let mut i = 0;
     while i < count {
-        if bytes.len() - p < width {
-            return broken();
-        }
         out[i] = read_number(bytes, p, width);
         p += width;
         i += 1;
@@ -82,8 +89,10 @@ pub fn load_words(bytes: &[u8], at: usize, out: &mut [u64]) -> Loaded
     Loaded { count, next: p }
 }
 
-// Reads the list at `at`, of numbers of at most four bytes, to the front of `out`.
+// Reads the list at `at` so, if its numbers have at most four bytes.
 pub fn load_numbers(bytes: &[u8], at: usize, out: &mut [u32]) -> Loaded
+    ensures { λ r. ⌜ r ≡ loadedOf 4 (length (now (out .entry))) (headAt at (now (bytes .entry))) ⌝ }
+    ensures { λ _. ⌜ now (out .exit) ≡ cellsOf 4 (headAt at (now (bytes .entry))) (now (bytes .entry)) (now (out .entry)) ⌝ }
     ensures { λ r. ⌜ Counts (r .count) (now (out .exit)) ⌝ }
 {
     let head = head_at(bytes, at);
@@ -98,9 +107,6 @@ pub fn load_numbers(bytes: &[u8], at: usize, out: &mut [u32]) -> Loaded
     let mut p = head.at;
     let mut i = 0;
     while i < count {
-        if bytes.len() - p < width {
-            return broken();
-        }
         out[i] = read_number(bytes, p, width) as u32;
         p += width;
         i += 1;

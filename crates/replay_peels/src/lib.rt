@@ -1,5 +1,2 @@
-// The peelers, and the calls on graph and stacks, replayed.
-pub mod graphs;
+// The peelers, replayed.
 pub mod peels;
-pub mod pushes;
-pub mod replies;

@@ -1,67 +1,21 @@
-use borrow.Author.Needs.{needs}
-use native.Mathlib.Omega.{arith}
-use mathlib.Core.Path.{_≡_}
 use Prim.Native.Nat.{_-_}
 use lib.ListN.{length}
+use Prim.Native.Nat.{ℕ, _/_, _^_}
+use Rattle.bench_draws.proofs.Drawing.{Values, values-begin, values-turn, values-end}
+use borrow.Author.Needs.{needs}
 use Rattle.bench_draws.proofs.equations.draw_values.Statement.{statement}
 use Rattle.bench_draws.proofs.equations.draw_values.Tie as tie
-use Rattle.bench_draws.proofs.equations.draw_values.Reads as reads
-use Rattle.bench_draws.proofs.equations.draw_values.Lts as lts
-use Rattle.bench_draws.proofs.random.draw.Reads as draw-reads
 
 abbrev Inv-loop : tie.InvT-loop
-Inv-loop seed₀ bits values₀ i₀ seed values i = length values ≡ length values₀
+Inv-loop seed₀ bits values₀ i₀ seed values i = Values bits (length values₀) seed₀ i seed values
 
 abbrev μ-loop : tie.MeasureT-loop
 μ-loop seed₀ bits values₀ i₀ seed values i = length values₀ - i
 
--- src/equations.rt:14:5
-loop-holds : tie.Need-loop-holds Inv-loop μ-loop
-loop-holds c = search needs
-
--- src/equations.rt:15:21
-draw-requires : tie.Need-draw-requires Inv-loop μ-loop
-draw-requires c κs = search needs
-
--- src/equations.rt:15:36
-sub-values : tie.Need-sub-values Inv-loop μ-loop
-sub-values c = search needs
-
--- src/equations.rt:15:36
-cast-values : tie.Need-cast-values Inv-loop μ-loop
-cast-values c = search needs
-
--- src/equations.rt:15:21
-shr-values : tie.Need-shr-values Inv-loop μ-loop
-shr-values c = search needs
-
--- src/equations.rt:15:9
-mul-values : tie.Need-mul-values Inv-loop μ-loop
-mul-values c = search needs
-
--- src/equations.rt:15:9
-slice-write-values : tie.Need-slice-write-values Inv-loop μ-loop
-slice-write-values c = search needs
-
--- src/equations.rt:16:9
-add-i : tie.Need-add-i Inv-loop μ-loop
-add-i c = search needs
-
--- src/equations.rt:14:5
-loop-less : tie.Need-loop-less Inv-loop μ-loop
-loop-less c = search needs
-
--- src/equations.rt:14:5
 loop-again : tie.Need-loop-again Inv-loop μ-loop
-loop-again c = search needs
-
--- src/equations.rt:10:1
-same-length : tie.Need-same-length Inv-loop μ-loop
-same-length c = search needs
-
--- src/equations.rt:10:1
-returns : tie.Need-returns Inv-loop μ-loop
-returns c = search needs
+loop-again c =
+    let e = c .draw .ensures in
+    values-turn (c .before .before .before .loop .inv) (c .before .before .loop-test .taken) (rw (e .0)) (e .1)
 
 pub draw-values-spec : {M : Type 1} → statement M
 draw-values-spec =
@@ -69,15 +23,15 @@ draw-values-spec =
     (tie.spec
     Inv-loop
     μ-loop
-    loop-holds
-    draw-requires
-    sub-values
-    cast-values
-    shr-values
-    mul-values
-    slice-write-values
-    add-i
-    loop-less
+    (λ c. search (needs, values-begin))  -- loop-holds
+    (λ c κs. search needs)  -- draw-requires
+    (λ c. search needs)  -- sub-values
+    (λ c. search needs)  -- cast-values
+    (λ c. search needs)  -- shr-values
+    (λ c. search needs)  -- mul-values
+    (λ c. search needs)  -- slice-write-values
+    (λ c. search needs)  -- add-i
+    (λ c. search needs)  -- loop-less
     loop-again
-    same-length
-    returns)
+    (λ c. search needs)  -- same-length
+    (λ c. values-end (c .before .loop .inv) (c .loop-test .left)))

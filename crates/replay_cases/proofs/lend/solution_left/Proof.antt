@@ -1,12 +1,13 @@
 use borrow.Author.Needs.{needs}
+use borrow.Author.Tests.{eq-eqb, ne-eqb}
 use Rattle.replay_cases.proofs.lend.solution_left.Statement.{statement}
 use Rattle.replay_cases.proofs.lend.solution_left.Tie as tie
 
 returns : tie.Need-returns
-returns c = λ yes. record { solved = λ _. c .same-words .ensures yes; kept = λ run. absurd (run (c .before .if1 .taken)) }
+returns c = simp (eq-eqb _ _ (c .before .if1 .taken)) (c .same-words .ensures)
 
 returns-2 : tie.Need-returns-2
-returns-2 c = λ yes. record { solved = λ zero. absurd (c .before .if1 .left zero); kept = λ _. c .left-words .ensures yes }
+returns-2 c = simp (ne-eqb _ _ (c .before .if1 .left)) (c .left-words .ensures)
 
 pub solution-left-spec : {M : Type 1} → statement M
 solution-left-spec =

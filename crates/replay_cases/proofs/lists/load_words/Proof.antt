@@ -1,26 +1,48 @@
-use mathlib.Core.Path.{_≡_}
-use Prim.Native.Nat.{_-_, _≤_}
-use Rattle.replay_cases.proofs.Counting.{counted}
-use lib.ListN.{length}
-use borrow.Author.Needs.{needs}
 use native.Mathlib.Omega.{arith}
+use Prim.Native.Nat.{_-_}
+use borrow.Author.Needs.{needs}
+use Rattle.replay_cases.proofs.ListLoading.{head-fits, Loading, loading-begin, loading-room, loading-turn, loading-end, loads-short, loads-fit, ends-missing, ends-loaded}
 use Rattle.replay_cases.proofs.lists.load_words.Statement.{statement}
 use Rattle.replay_cases.proofs.lists.load_words.Tie as tie
 
 abbrev Inv-loop : tie.InvT-loop
-Inv-loop bytes at out₀ width count p₀ i₀ out p i = (i ≤ count) × (count ≤ length out) × (length out ≡ length out₀) × (p ≤ length bytes)
+Inv-loop bytes at out₀ width count p₀ i₀ out p i = Loading bytes p₀ width count out₀ p i out
 
 abbrev μ-loop : tie.MeasureT-loop
 μ-loop bytes at out₀ width count p₀ i₀ out p i = count - i
 
 returns : tie.Need-returns Inv-loop μ-loop
-returns c = counted (c .broken .result .count) (c .before .before .before .before .before .args .out .now) (omega arith)
+returns c =
+    let a = c .before .before .before .before .before .args in
+    let h = c .before .before .head-at in
+    ends-missing 8 (h .result) _ (a .bytes .now) (a .out .now) (c .broken .result) (h .ensures) (c .broken .ensures)
+    (loads-short 8 _ (h .result) (c .before .if1 .taken))
+
+loop-holds : tie.Need-loop-holds Inv-loop μ-loop
+loop-holds c =
+    let a = c .before .before .before .before .args in
+    let h = c .before .head-at in
+    let f = head-fits (a .at) (a .bytes .now) in
+    let e = h .ensures in
+    let g = rw (← e) at f in
+    loading-begin (a .bytes .now) (h .result .at) (h .result .width) (h .result .count) (a .out .now) (g .there) (g .narrow) (c .if1 .left)
+
+read-number-requires : tie.Need-read-number-requires Inv-loop μ-loop
+read-number-requires c κs = let l = c .before .loop .inv in (loading-room l (c .loop-test .taken), l .narrow)
+
+add-p : tie.Need-add-p Inv-loop μ-loop
+add-p c = let r = loading-room (c .before .before .loop .inv) (c .before .loop-test .taken) in search needs
+
+loop-again : tie.Need-loop-again Inv-loop μ-loop
+loop-again c = loading-turn (c .before .before .loop .inv) (c .before .loop-test .taken) (c .read-number .ensures .0)
 
 returns-2 : tie.Need-returns-2 Inv-loop μ-loop
-returns-2 c = counted (c .broken2 .result .count) (c .before .before .before .loop .out) (omega arith)
-
-returns-3 : tie.Need-returns-3 Inv-loop μ-loop
-returns-3 c = counted (c .before .before .before .head-at .result .count) (c .before .loop .out) (omega arith)
+returns-2 c =
+    let a = c .before .before .before .before .before .before .args in
+    let h = c .before .before .before .head-at in
+    let l = c .before .loop in
+    ends-loaded 8 (h .result) _ (a .bytes .now) (a .out .now) (l .out) (l .p) (h .ensures)
+    (loads-fit 8 _ (h .result) (c .before .before .if1 .left) (l .inv .narrow)) (c .before .before .if1 .left) (loading-end (l .inv) (c .loop-test .left))
 
 pub load-words-spec : {M : Type 1} → statement M
 load-words-spec =
@@ -31,17 +53,13 @@ load-words-spec =
     (λ c κs. search needs)  -- head-at-requires
     (λ c κs. search needs)  -- broken-requires
     returns
-    (λ c. search needs)  -- loop-holds
-    (λ c. search needs)  -- sub-if2
-    (λ c κs. search needs)  -- broken-requires-2
-    (λ c. search needs)  -- same-length
-    returns-2
-    (λ c κs. search needs)  -- read-number-requires
+    loop-holds
+    read-number-requires
     (λ c. search needs)  -- mul-out
     (λ c. search needs)  -- slice-write-out
-    (λ c. search needs)  -- add-p
+    add-p
     (λ c. search needs)  -- add-i
     (λ c. search needs)  -- loop-less
-    (λ c. search needs)  -- loop-again
-    (λ c. search needs)  -- same-length-2
-    returns-3)
+    loop-again
+    (λ c. search needs)  -- same-length
+    returns-2)

@@ -2,8 +2,8 @@ use mathlib.Core.Path.{_≡_}
 use Prim.Native.Nat.{_-_, _≤_, _<_, _*_}
 use lib.ListN.{length}
 use borrow.Author.Needs.{needs}
-use Rattle.replay_peels.proofs.graphs.graph_run.Statement.{statement}
-use Rattle.replay_peels.proofs.graphs.graph_run.Tie as tie
+use Rattle.replay_graphs.proofs.graphs.graph_run.Statement.{statement}
+use Rattle.replay_graphs.proofs.graphs.graph_run.Tie as tie
 
 abbrev Inv-loop : tie.InvT-loop
 Inv-loop calls replies edges₀ degrees₀ count graph₀ i₀ edges degrees graph i = (i ≤ count) × (count < 18446744073709551616) × (4 * count ≤ length calls) × (length edges ≡ length edges₀) × (length degrees ≡ length degrees₀)

@@ -2,6 +2,8 @@
 use answers::Answer;
 use replay_cases::said::number_at;
 use stack_steps::Popped;
+ghost use mathlib.Core.Path.{_≡_};
+ghost use Rattle.replay_graphs.specs.Replies.{valuedReply, poppedReply, isReply};
 
 pub struct Reply {
     pub number: u32,
@@ -12,7 +14,9 @@ pub struct Reply {
 // The file's number for a pop that finds nothing.
 pub const EMPTY: u32 = 11;
 
-pub fn told(answer: Answer) -> Reply {
+pub fn told(answer: Answer) -> Reply
+    ensures { λ r. ⌜ r ≡ valuedReply answer 0 0 ⌝ }
+{
     Reply {
         number: answer.number(),
         value: 0,
@@ -20,7 +24,9 @@ pub fn told(answer: Answer) -> Reply {
     }
 }
 
-pub fn valued(answer: Answer, value: u32, side: u32) -> Reply {
+pub fn valued(answer: Answer, value: u32, side: u32) -> Reply
+    ensures { λ r. ⌜ r ≡ valuedReply answer value side ⌝ }
+{
     Reply {
         number: answer.number(),
         value,
@@ -28,7 +34,9 @@ pub fn valued(answer: Answer, value: u32, side: u32) -> Reply {
     }
 }
 
-pub fn popped(got: Popped) -> Reply {
+pub fn popped(got: Popped) -> Reply
+    ensures { λ r. ⌜ r ≡ poppedReply got ⌝ }
+{
     match got {
         Popped::Got(v) => valued(Answer::Solved, v.0, 0),
         Popped::Empty => Reply {
@@ -41,7 +49,9 @@ pub fn popped(got: Popped) -> Reply {
 }
 
 // Whether the three numbers from `at` on are the reply.
-pub fn is_reply(reply: Reply, replies: &[u32], at: usize) -> bool {
+pub fn is_reply(reply: Reply, replies: &[u32], at: usize) -> bool
+    ensures { λ r. ⌜ r ≡ isReply reply (now (replies .entry)) at ⌝ }
+{
     if replies.len() < 3 {
         return false;
     }

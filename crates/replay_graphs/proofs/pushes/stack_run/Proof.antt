@@ -2,8 +2,8 @@ use mathlib.Core.Path.{_≡_}
 use Prim.Native.Nat.{_-_, _≤_, _*_}
 use lib.ListN.{length}
 use borrow.Author.Needs.{needs}
-use Rattle.replay_peels.proofs.pushes.stack_run.Statement.{statement}
-use Rattle.replay_peels.proofs.pushes.stack_run.Tie as tie
+use Rattle.replay_graphs.proofs.pushes.stack_run.Statement.{statement}
+use Rattle.replay_graphs.proofs.pushes.stack_run.Tie as tie
 
 abbrev Inv-loop : tie.InvT-loop
 Inv-loop double calls replies stack₀ count head₀ i₀ stack head i = (i ≤ count) × (4 * count ≤ length calls) × (length stack ≡ length stack₀)
