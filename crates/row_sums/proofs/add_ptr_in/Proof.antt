@@ -1,10 +1,10 @@
 -- What the merge and the two copies write, put together by `gather-rows`.
 use mathlib.Core.Logic.{inl}
-use Rattle.equation.proofs.Gather.{gather-rows}
+use Rattle.row_sums.proofs.GatherRows.{gather-rows}
 use native.Mathlib.Omega.{arith}
 use borrow.Author.Needs.{needs}
-use Rattle.equation.proofs.rows.add_ptr_in.Statement.{statement}
-use Rattle.equation.proofs.rows.add_ptr_in.Tie as tie
+use Rattle.row_sums.proofs.add_ptr_in.Statement.{statement}
+use Rattle.row_sums.proofs.add_ptr_in.Tie as tie
 
 copy-within-numbers-requires : tie.Need-copy-within-numbers-requires
 copy-within-numbers-requires c κs = (omega arith, omega arith, inl (omega arith))

@@ -1,10 +1,10 @@
 -- What the calls leave, put together by `settled`.
 use mathlib.Core.Logic.{inr}
-use Rattle.equation.proofs.Settle.{settled}
+use Rattle.row_sums.proofs.SettleRow.{settled}
 use native.Mathlib.Omega.{arith}
 use borrow.Author.Needs.{needs}
-use Rattle.equation.proofs.rows.add_into.Statement.{statement}
-use Rattle.equation.proofs.rows.add_into.Tie as tie
+use Rattle.row_sums.proofs.add_into.Statement.{statement}
+use Rattle.row_sums.proofs.add_into.Tie as tie
 
 copy-within-numbers-requires : tie.Need-copy-within-numbers-requires
 copy-within-numbers-requires c κs = (omega arith, omega arith, inr (omega arith))

@@ -1,24 +1,19 @@
 -- The merge of two rows into the scratch row: place d is at or below every variable still to come, so n cells suffice.
 use mathlib.Core.Path.{_≡_, sym, _∙_}
-use mathlib.Core.Bool.{not, Bool·beq, cond}
 use mathlib.Core.List.{List}
 use Prim.Native.Nat.{ℕ, suc, _+_, _-_, _<_, _≤_}
-use native.Mathlib.Nat.{add-zero}
 use native.Mathlib.Numerals.{add-one}
 use native.Mathlib.Omega.{arith}
 use lib.ListN.{length, drop, getD, set, length-drop}
 use lib.Seq.{drop-cons}
-use lib.Dec.{leb}
-use mir.Val.{boolByte}
-use borrow.Author.Tests.{le-leb, lt-leb}
 use Rattle.gf2.specs.Equation.{Rising}
-use Rattle.gf2.proofs.Tests.{Tri, tri, less, same, more}
 use Rattle.gf2.proofs.SymDiff.{rising-from, rising-length}
 use Rattle.areas.specs.Stretch.{stretch}
 use Rattle.areas.proofs.Stretch.{length-stretch, getD-stretch, getD-agree}
-use Rattle.equation.specs.Merging.{Merged, Ended}
-use Rattle.equation.specs.AddFits.{AddFits}
+use Rattle.equation.specs.Merging.{Merged}
 use Rattle.equation.proofs.Turn.{merged-begin, on-less, on-more, on-both, left-done, right-done}
+use Rattle.row_sums.specs.AddFits.{AddFits}
+use Rattle.row_sums.specs.Ended.{Ended}
 
 -- the variable at place i of a list that rises from there on
 rising-at : (b n i : ℕ) (vs : List ℕ) → i < length vs → Rising b n (drop i vs) → (b ≤ getD vs i 0) × (getD vs i 0 < n) × Rising (suc (getD vs i 0)) n (drop (i + 1) vs)

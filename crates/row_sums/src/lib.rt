@@ -5,9 +5,10 @@ ghost use lib.ListN.{length};
 ghost use Rattle.gf2.specs.Equation.{symDiff};
 ghost use Rattle.areas.specs.Stretch.{stretch, put};
 ghost use Rattle.areas.specs.Rows.{padded};
-ghost use Rattle.equation.specs.Merging.{Merged, Ended, Gathered};
-ghost use Rattle.equation.specs.AddFits.{AddFits};
-use crate::merge::Place;
+ghost use Rattle.equation.specs.Merging.{Merged, Gathered};
+ghost use Rattle.row_sums.specs.AddFits.{AddFits};
+ghost use Rattle.row_sums.specs.Ended.{Ended};
+use equation::merge::Place;
 
 // Merges the rows at `p` and at `q` into the scratch row until one of them ends: a variable v is written at or before place v, so `n` cells suffice.
 fn merge_in(area: &mut [u32], n: usize, p: usize, li: usize, q: usize, lj: usize, s: usize) -> Place

@@ -3,9 +3,9 @@ use Prim.Native.Nat.{ℕ, _+_, _-_, _<_}
 use native.Mathlib.Omega.{arith}
 use borrow.Author.Needs.{needs}
 use borrow.Author.Tests.{ltb-true, ltb-false}
-use Rattle.equation.proofs.InRoom.{MergingIn, merging-begin, merging-low, merging-less, merging-more, merging-same, left-over, right-over}
-use Rattle.equation.proofs.rows.merge_in.Statement.{statement}
-use Rattle.equation.proofs.rows.merge_in.Tie as tie
+use Rattle.row_sums.proofs.InRoom.{MergingIn, merging-begin, merging-low, merging-less, merging-more, merging-same, left-over, right-over}
+use Rattle.row_sums.proofs.merge_in.Statement.{statement}
+use Rattle.row_sums.proofs.merge_in.Tie as tie
 
 abbrev Inv-loop : tie.InvT-loop
 Inv-loop area₀ n p li q lj s i₀ j₀ d₀ area i j d = MergingIn area₀ n p li q lj s area i j d
