@@ -5,7 +5,7 @@ use mathlib.Core.List.{List, [], _∷_, _++_, append-assoc, append-nil, map}
 use Prim.Native.Nat.{ℕ, zero, suc, _+_, _-_, _*_, _≤_, _<_}
 use native.Mathlib.Omega.{arith}
 use native.Mathlib.Nat.{zero-add, add-zero}
-use lib.ListN.{length, getD, set, take, drop, replicate, length-append, length-set, length-map, List·getD-map, List·getD-append}
+use lib.ListN.{length, getD, set, take, drop, replicate, length-append, length-set, length-map, length-replicate, List·getD-map, List·getD-append}
 use lib.Seq.{ext-getD, set-append-left, set-comm, drop-at, getD-set-same, getD-set-other}
 use Rattle.areas.specs.Stretch.{stretch, put, exchanged}
 use Rattle.areas.specs.Rows.{padded, laid, Narrow}
@@ -15,7 +15,9 @@ use Rattle.gf2.specs.Equation.{Each, Equation, eqn, Rising, sum}
 use Rattle.gf2.proofs.Each.{each-at, each-set}
 use Rattle.gf2.proofs.SymDiff.{rising-length}
 use Rattle.answers.specs.Sizes.{sparseNumbers, sparseWords}
+use Rattle.rows.specs.Padding.{PaddedRows}
 use Rattle.rows.specs.Picture.{varsOf, lengthOf, constantOf, picture, Drawn, Kept, tab, slot, rowsOf, Held, Became, rowAt, swapped, added}
+use Rattle.rows.proofs.Padding.{rows-padded}
 use Rattle.rows.proofs.Put.{parts, length-parts, parts-put, parts-stretch, parts-first, parts-length, parts-set-length, parts-exchanged, parts-scratch, map-set}
 
 -- ---- the picture and its parts
@@ -36,6 +38,10 @@ rising-narrow n vs r = omega (arith, rising-length 0 n vs (omega arith) r)
 rows-narrow : (n : ℕ) (rows : List Equation) → Each (λ e. Rising 0 n (e .vars)) rows → Narrow n (map varsOf rows)
 rows-narrow n rows r i h =
     rw (vars-at rows i) (rising-narrow n (rowAt rows i .vars) (each-at (λ e. Rising 0 n (e .vars)) rows (eqn [] 0) i (omega (arith, length-map rows varsOf)) r))
+
+lengths-twice : (rows : List Equation) → map (λ (vs : List ℕ). length vs) (map varsOf rows) ≡ map lengthOf rows
+lengths-twice [] = refl
+lengths-twice (e ∷ rows) = ap (λ (l : List ℕ). length (e .vars) ∷ l) (lengths-twice rows)
 
 length-tab : (f : ℕ → Equation) (i k : ℕ) → length (tab f i k) ≡ k
 length-tab f i zero = refl
@@ -174,12 +180,11 @@ module _ {n m : ℕ} {rows : List Equation} {rest rest′ numbers words : List �
       ap length (sym (append-nil (parts n (map varsOf rows) (map lengthOf rows))))
       ∙ length-parts n m (map varsOf rows) (map lengthOf rows) [] narrow many all ∙ add-zero (m * n + n + m)
 
-  pub rest-kept : Kept n m rest rest′ numbers words
-  rest-kept =
-      record {
-        numbers-kept = ap (drop (sparseNumbers n m)) as-parts ∙ drop-at (parts n (map varsOf rows) (map lengthOf rows)) rest (sparseNumbers n m) room-long;
-        words-kept = ap (drop m) (d .words-are) ∙ drop-at (map constantOf rows) rest′ m constants;
-      }
+  past-numbers : drop (sparseNumbers n m) numbers ≡ rest
+  past-numbers = ap (drop (sparseNumbers n m)) as-parts ∙ drop-at (parts n (map varsOf rows) (map lengthOf rows)) rest (sparseNumbers n m) room-long
+
+  past-words : drop (sparseWords m) words ≡ rest′
+  past-words = ap (drop m) (d .words-are) ∙ drop-at (map constantOf rows) rest′ m constants
 
   -- ---- the rows that are held
 
@@ -193,10 +198,19 @@ module _ {n m : ℕ} {rows : List Equation} {rest rest′ numbers words : List �
   pub held : Held n m numbers words
   held =
       subst (λ (r : List Equation). Drawn n m r (drop (sparseNumbers n m) numbers) (drop (sparseWords m) words) numbers words) (sym rows-are)
-      (subst₂ (λ (x y : List ℕ). Drawn n m rows x y numbers words) (sym (rest-kept .numbers-kept)) (sym (rest-kept .words-kept)) d)
+      (subst₂ (λ (x y : List ℕ). Drawn n m rows x y numbers words) (sym past-numbers) (sym past-words) d)
+
+  pub rest-kept : Kept n m rest rest′ numbers words
+  rest-kept = record { held = held; numbers-kept = past-numbers; words-kept = past-words }
+
+  -- each row lies padded, its length behind the scratch row
+  pub drawn-padded : PaddedRows 0 (m * n + n) n m numbers
+  drawn-padded =
+      let p = rows-padded n (map varsOf rows) (replicate n 0) rest narrow (as-parts ∙ rw (sym (lengths-twice rows)) (simp append-assoc)) in
+      rw (many, length-replicate {A = ℕ} n 0) at p
 
   -- what a call says of the rows that its areas held, said of these rows
   pub carried : (P : List Equation → List ℕ → List ℕ → Type 0) → P (rowsOf n m numbers words) (drop (sparseNumbers n m) numbers) (drop (sparseWords m) words) → P rows rest rest′
   carried P p =
       subst (λ (r : List Equation). P r rest rest′) rows-are
-      (subst₂ (λ (x y : List ℕ). P (rowsOf n m numbers words) x y) (rest-kept .numbers-kept) (rest-kept .words-kept) p)
+      (subst₂ (λ (x y : List ℕ). P (rowsOf n m numbers words) x y) past-numbers past-words p)

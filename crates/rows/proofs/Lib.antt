@@ -4,3 +4,4 @@ pub mod Fronting
 pub mod Swapping
 pub mod Adding
 pub mod Loading
+pub mod Padding

@@ -1,2 +1,3 @@
 pub mod Picture
 pub mod Front
+pub mod Padding

@@ -39,11 +39,6 @@ pub record Drawn (n m : ℕ) (rows : List Equation) (rest rest′ numbers words 
   pub numbers-room : m * n + n + m ≤ length numbers
   pub words-room : m ≤ length words
 
--- past the room the areas are rest and rest′
-pub record Kept (n m : ℕ) (rest rest′ numbers words : List ℕ) : Type 0 where
-  pub numbers-kept : drop (sparseNumbers n m) numbers ≡ rest
-  pub words-kept : drop (sparseWords m) words ≡ rest′
-
 -- ---- the rows that an area holds
 
 -- f of the k numbers from i on
@@ -60,6 +55,12 @@ rowsOf n m numbers words = tab (slot n m numbers words) 0 m
 -- the areas hold m rows, whichever they are
 abbrev pub Held : ℕ → ℕ → List ℕ → List ℕ → Type 0
 Held n m numbers words = Drawn n m (rowsOf n m numbers words) (drop (sparseNumbers n m) numbers) (drop (sparseWords m) words) numbers words
+
+-- .. and past the room they are rest and rest′
+pub record Kept (n m : ℕ) (rest rest′ numbers words : List ℕ) : Type 0 where
+  pub held : Held n m numbers words
+  pub numbers-kept : drop (sparseNumbers n m) numbers ≡ rest
+  pub words-kept : drop (sparseWords m) words ≡ rest′
 
 -- the areas that held rows hold these rows now, and the rest is as it was
 abbrev pub Became : ℕ → ℕ → List ℕ → List ℕ → List Equation → List ℕ → List ℕ → Type 0

@@ -1,10 +1,11 @@
 // A system's rows in lent memory: m rows of n numbers, a scratch row, m lengths; the constants in the words.
 ghost use mathlib.Core.Path.{_≡_};
-ghost use Prim.Native.Nat.{_+_, _≤_, _<_};
+ghost use Prim.Native.Nat.{_+_, _*_, _≤_, _<_};
 ghost use lib.ListN.{length, set};
-ghost use Rattle.areas.specs.Stretch.{cleared};
+ghost use Rattle.areas.specs.Stretch.{cleared, zeroed};
 ghost use Rattle.answers.specs.Sizes.{maxVariables, sparseNumbers, sparseWords};
 ghost use Rattle.gf2.specs.Equation.{eqn, Rising};
+ghost use Rattle.rows.specs.Padding.{PaddedRows};
 ghost use Rattle.rows.specs.Picture.{Longer, Held, Became, rowsOf, rowAt, swapped, added};
 
 mod front;
@@ -17,6 +18,20 @@ pub fn clear(numbers: &mut [u32], words: &mut [u64], n: usize, m: usize)
 {
     areas::zero::zero_numbers(numbers, 0, m * n + n + m);
     areas::zero::zero_words(words, 0, m);
+}
+
+// The `m` rows from index `at` on become zeros: of each only as many numbers are written as its length, from index `lengths` on, says.
+pub fn empty_rows(numbers: &mut [u32], at: usize, lengths: usize, n: usize, m: usize)
+    requires { ⌜ PaddedRows at lengths n m (now numbers) ⌝ }
+    ensures { λ _. ⌜ now (numbers .exit) ≡ zeroed at (at + m * n) (now (numbers .entry)) ⌝ }
+{
+    let mut i = 0;
+    while i < m {
+        let row = at + i * n;
+        let len = numbers[lengths + i] as usize;
+        areas::zero::zero_numbers(numbers, row, row + len);
+        i += 1;
+    }
 }
 
 // Row `i`, which has no variables, becomes the equation of these variables and this constant.
