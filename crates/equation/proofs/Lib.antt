@@ -1,6 +1,5 @@
 pub mod Rise
 pub mod Turn
-pub mod InRoom
 pub mod Gather
 pub mod Settle
 pub mod Cancelled

@@ -1,5 +1,4 @@
 pub mod Increase
 pub mod Merging
 pub mod Sums
-pub mod AddFits
 pub mod Common

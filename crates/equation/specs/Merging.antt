@@ -1,7 +1,7 @@
 -- Where a merge of two increasing lists stands, and what it comes to.
 use mathlib.Core.Path.{_≡_}
 use mathlib.Core.List.{List, _++_}
-use Prim.Native.Nat.{ℕ, _+_, _-_, _≤_, min}
+use Prim.Native.Nat.{ℕ, _+_, _≤_, min}
 use lib.ListN.{length, take, drop}
 use Rattle.gf2.specs.Equation.{symDiff}
 use Rattle.areas.specs.Stretch.{stretch}
@@ -16,13 +16,6 @@ pub record Merged (l r before out : List ℕ) (s m i j d : ℕ) : Type 0 where
   pub back : drop (s + d + 1) out ≡ drop (s + d + 1) before
   pub kept : drop (s + m) out ≡ drop (s + m) before
   pub written : stretch s d out ++ symDiff (drop i l) (drop j r) ≡ symDiff l r
-
--- one of the two lists has ended: what is left of the other, up to li and lj, is the rest of the sum, and fits behind what is written
-pub record Ended (l r out : List ℕ) (s m li lj i j d : ℕ) : Type 0 where
-  pub in-left : i ≤ li
-  pub in-right : j ≤ lj
-  pub fits : d + (li - i) + (lj - j) ≤ m
-  pub rest : stretch s d out ++ (drop i l ++ drop j r) ≡ symDiff l r
 
 -- the sum of l and r stands in `out` from s on, and it is `len` variables long; one cell past it may have been written too
 pub record Gathered (l r before out : List ℕ) (s m len : ℕ) : Type 0 where

@@ -4,8 +4,7 @@ ghost use Rattle.equation.specs.Sums.{sumCall, failed};
 use answers::Answer;
 
 mod increase;
-mod merge;
-pub mod rows;
+pub mod merge;
 
 pub struct Summed {
     pub answer: Answer,

@@ -7,7 +7,7 @@ ghost use mathlib.Core.Path.{_≡_};
 ghost use Rattle.answers.specs.Numbers.{numberOf, placeOf};
 ghost use Rattle.equation.specs.Sums.{sumCall};
 ghost use Rattle.system.specs.System.{checkCall};
-ghost use Rattle.sparse.specs.SparseCall.{sparseCall};
+ghost use Rattle.sparse_rules.specs.SparseCall.{sparseCall};
 ghost use Rattle.dense.specs.Call.{denseCall};
 ghost use Rattle.exports.specs.Told.{toldNumber, toldPlace};
 

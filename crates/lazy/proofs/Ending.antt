@@ -13,7 +13,7 @@ use Rattle.gf2.specs.ByNumber.{rowOf, listsAt, blank, MeetsRows}
 use Rattle.gf2.specs.Equation.{Equation, Each, Increasing, Sorted, evalVars, lists, Meets, MeetsAll}
 use Rattle.gf2.specs.NumberLists.{count}
 use Rattle.gf2.specs.Span.{InSpan, Cancels}
-use Rattle.sparse.specs.Eliminate.{contradicted, backSub}
+use Rattle.sparse_rules.specs.Eliminate.{contradicted, backSub}
 use Rattle.lazy.specs.Description.{Described, Chosen, Fixed}
 use Rattle.lazy.specs.Invariant.{Lent, free, isSolved, solves, waiting, twoUp, Inv, Place, waits, listed, settled, passed, copied, Copied, Active}
 use Rattle.lazy.specs.Lazy.{State, Solved, fill}
@@ -25,8 +25,8 @@ use Rattle.gf2.proofs.Spans.{span-sum}
 use Rattle.gf2.proofs.Sums.{refuted-cancels, Refuted}
 use Rattle.gf2.proofs.Tests.{not-true→false, eqb-same, T→true, true→T}
 use Rattle.gf2.proofs.VarLists.{listed-above}
-use Rattle.sparse.proofs.BackSub.{not-contradicted, length-backSub, backSub-other, backSub-meets, Leader, backSub-lead, backSub-small}
-use Rattle.sparse.proofs.OuterRow.{Like, Triangular}
+use Rattle.sparse_rules.proofs.BackSub.{not-contradicted, length-backSub, backSub-other, backSub-meets, Leader, backSub-lead, backSub-small}
+use Rattle.sparse_rules.proofs.OuterRow.{Like, Triangular}
 use Rattle.lazy.proofs.Filling.{fill-small, length-fill, fill-other, fill-meets}
 use Rattle.lazy.proofs.Keeps.{no-free}
 use Rattle.lazy.proofs.Pivots.{listsAt-below, is-free, solves-solved, pivot-solves}

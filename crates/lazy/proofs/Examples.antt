@@ -4,7 +4,7 @@ use mathlib.Core.List.{[], _∷_}
 use Rattle.gf2.specs.Equation.{eqn, evalVars, lists, symDiff}
 use Rattle.gf2.specs.NumberLists.{upFrom, downFrom, keep, firstOf}
 use Rattle.gf2.specs.Result.{unsolvable, ok}
-use Rattle.sparse.specs.Eliminate.{summed, meeting, meetRow, outerRow, contradicted, pin, backSub}
+use Rattle.sparse_rules.specs.Eliminate.{summed, meeting, meetRow, outerRow, contradicted, pin, backSub}
 use Rattle.lazy.specs.Lazy.{listing, others, heaviest, start, lowered, pushed, addedInto, skip, activate, passOver, copy, solveFor, popDense, popEquation, popVariable, pop, denseRow, fill, lastUnit, unit, after, wholeRun, lazyElimination}
 
 pub P1 : lazyElimination 3 [] ≡ ok (0 ∷ 0 ∷ 0 ∷ [])

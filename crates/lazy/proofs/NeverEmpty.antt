@@ -11,7 +11,7 @@ use lib.Dec.{eqb}
 use Rattle.gf2.specs.Equation.{Equation, lists}
 use Rattle.gf2.specs.NumberLists.{Distinct}
 use Rattle.gf2.specs.ByNumber.{rowOf, listsAt}
-use Rattle.sparse.specs.Eliminate.{backSub}
+use Rattle.sparse_rules.specs.Eliminate.{backSub}
 use Rattle.lazy.specs.Lazy.{State, Solved, listing, others, isIdle, fill, more, after, start}
 use Rattle.lazy.specs.Invariant.{Lent, Inv, StackInv, free, isSolved}
 use Rattle.lazy.specs.Safe.{Safe, pivotOf}

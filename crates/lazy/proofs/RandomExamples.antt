@@ -5,7 +5,7 @@ use Prim.Native.Nat.{ℕ}
 use Rattle.gf2.specs.Equation.{Equation, eqn, evalVars, lists, symDiff}
 use Rattle.gf2.specs.NumberLists.{upFrom, downFrom, keep, firstOf}
 use Rattle.gf2.specs.Result.{Result, unsolvable, ok}
-use Rattle.sparse.specs.Eliminate.{summed, meeting, meetRow, outerRow, contradicted, pin, backSub}
+use Rattle.sparse_rules.specs.Eliminate.{summed, meeting, meetRow, outerRow, contradicted, pin, backSub}
 use Rattle.lazy.specs.Lazy.{listing, others, heaviest, start, lowered, pushed, addedInto, skip, activate, passOver, copy, solveFor, popDense, popEquation, popVariable, pop, denseRow, fill, lastUnit, more, unit, after, used, enough, wholeRun, lazyElimination}
 
 record System : Type 0 where

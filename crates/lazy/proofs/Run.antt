@@ -10,14 +10,14 @@ use Rattle.gf2.specs.ByNumber.{rowOf}
 use Rattle.gf2.specs.Equation.{Equation}
 use Rattle.gf2.specs.Result.{Result, unsolvable, ok}
 use Rattle.gf2.specs.Span.{Cancels}
-use Rattle.sparse.specs.Eliminate.{outerRow, contradicted, backSub}
+use Rattle.sparse_rules.specs.Eliminate.{outerRow, contradicted, backSub}
 use Rattle.lazy.specs.Description.{Described}
 use Rattle.lazy.specs.Invariant.{Lent, Inv}
 use Rattle.lazy.specs.Lazy.{State, start, pop, denseRow, fill, lastUnit, Build, more, ended, goOn, unit, after, wholeRun}
 use Rattle.gf2.proofs.Spans.{empty-row-cancels}
 use Rattle.gf2.proofs.Tests.{true→T}
-use Rattle.sparse.proofs.BackSub.{contradicted-clash}
-use Rattle.sparse.proofs.OuterRow.{echelon-zero, Like, like-same, like-then, Echelon, RoundMet, round-clash, round-met, outerRow-met, echelon-triangular}
+use Rattle.sparse_rules.proofs.BackSub.{contradicted-clash}
+use Rattle.sparse_rules.proofs.OuterRow.{echelon-zero, Like, like-same, like-then, Echelon, RoundMet, round-clash, round-met, outerRow-met, echelon-triangular}
 use Rattle.lazy.proofs.AtStart.{start-inv, start-variables, start-remaining, start-dense}
 use Rattle.lazy.proofs.Ending.{clash-ends, dense-sorted, values-right}
 use Rattle.lazy.proofs.Pops.{Popped, Clash, After, pop-keeps}

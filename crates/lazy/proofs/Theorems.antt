@@ -14,7 +14,7 @@ use Rattle.gf2.specs.Span.{Cancels}
 use Rattle.gf2.specs.Ours.{anyOurs, allOurs, Apart, ourPart}
 use Rattle.gf2.specs.Result.{unsolvable, ok}
 use Rattle.lazy.specs.Lazy.{State, Build, more, ended, start, after, used, enough, wholeRun, answerOf, lazyElimination, unit, lastUnit, fill}
-use Rattle.sparse.specs.Eliminate.{contradicted, backSub}
+use Rattle.sparse_rules.specs.Eliminate.{contradicted, backSub}
 use Rattle.lazy.specs.Invariant.{Lent}
 use Rattle.lazy.specs.Description.{Described}
 use Rattle.lazy.specs.Safe.{Safe}

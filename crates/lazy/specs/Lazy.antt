@@ -9,7 +9,7 @@ use Rattle.gf2.specs.Equation.{Equation, evalVars, sum}
 use Rattle.gf2.specs.NumberLists.{upFrom, downFrom, keep, firstOf}
 use Rattle.gf2.specs.ByNumber.{rowOf, listsAt}
 use Rattle.gf2.specs.Result.{Result, unsolvable, ok}
-use Rattle.sparse.specs.Eliminate.{outerRow, contradicted, backSub}
+use Rattle.sparse_rules.specs.Eliminate.{outerRow, contradicted, backSub}
 
 -- `sys` is the system as lent, throughout: which equation lists which variable is asked of the start.
 

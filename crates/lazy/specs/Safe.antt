@@ -8,7 +8,7 @@ use lib.ListN.{getD, replicate}
 use Rattle.gf2.specs.Equation.{Equation, lists}
 use Rattle.gf2.specs.NumberLists.{firstOf}
 use Rattle.gf2.specs.ByNumber.{rowOf, listsAt}
-use Rattle.sparse.specs.Eliminate.{backSub}
+use Rattle.sparse_rules.specs.Eliminate.{backSub}
 use Rattle.lazy.specs.Lazy.{State, Solved, listing, others, isIdle, fill}
 
 -- the variable that equation e is solved for

@@ -19,7 +19,7 @@ use Rattle.areas.proofs.Offsets.{row-before, row-begins}
 use Rattle.areas.proofs.Rows.{length-laid, length-padded, stretch-laid, put-laid, narrow-set}
 use Rattle.areas.proofs.Segments.{offset-set}
 use Rattle.areas.proofs.Stretch.{stretch-at, length-put}
-use Rattle.equation.specs.AddFits.{AddFits}
+use Rattle.row_sums.specs.AddFits.{AddFits}
 use Rattle.lazy.specs.Lazy.{State}
 use Rattle.lazy_setup.specs.declared.Layout.{Layout}
 use Rattle.lazy_setup.specs.Area.{segments, numbersOf, lengths, rowsOf, wordsOf}

@@ -45,7 +45,7 @@ fn add_row(
 {
     let lf = numbers[lengths + f] as usize;
     let le = numbers[lengths + e] as usize;
-    let len = equation::rows::add_into(numbers, n, f * n, lf, e * n, le, scratch);
+    let len = row_sums::add_into(numbers, n, f * n, lf, e * n, le, scratch);
     numbers[lengths + f] = len as u32;
     words[f] = words[f] ^ words[e];
 }

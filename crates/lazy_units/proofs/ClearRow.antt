@@ -15,10 +15,10 @@ use Rattle.areas.proofs.Rows.{length-padded}
 use Rattle.rows.specs.Picture.{picture, Drawn, Held, constantOf, rowsOf}
 use Rattle.rows.proofs.Holding.{held, carried, drawn-padded}
 use Rattle.rows.proofs.Padding.{padded-agree}
-use Rattle.sparse.specs.Eliminate.{outerRow}
-use Rattle.sparse.specs.Reduce.{ReducedBy, refused, reduced, Reduces}
-use Rattle.sparse.specs.declared.echelon.Reduction.{Reduction}
-use Rattle.sparse.specs.declared.echelon.Reduction.the-variants as reduction
+use Rattle.sparse_rules.specs.Eliminate.{outerRow}
+use Rattle.sparse_rows.specs.Reduce.{ReducedBy, refused, reduced, Reduces}
+use Rattle.sparse_rows.specs.declared.echelon.Reduction.{Reduction}
+use Rattle.sparse_rows.specs.declared.echelon.Reduction.the-variants as reduction
 use Rattle.lazy.specs.Invariant.{Lent, Inv}
 use Rattle.lazy.specs.Lazy.{State, denseRow}
 use Rattle.lazy_setup.specs.declared.Layout.{Layout}

@@ -10,10 +10,10 @@ use Rattle.gf2.specs.Result.{Result, unsolvable, ok}
 use Rattle.gf2.proofs.Results.{unsolvable≢ok, ok-same}
 use Rattle.rows.specs.Picture.{Drawn, Held, rowsOf}
 use Rattle.rows.proofs.Holding.{held, carried}
-use Rattle.sparse.specs.Eliminate.{contradicted, backSub, finish}
-use Rattle.sparse.specs.Reduce.{FinishedBy, left, filled}
-use Rattle.sparse.specs.declared.echelon.Reduction.{Reduction}
-use Rattle.sparse.specs.declared.echelon.Reduction.the-variants as reduction
+use Rattle.sparse_rules.specs.Eliminate.{contradicted, backSub, finish}
+use Rattle.sparse_rows.specs.Reduce.{FinishedBy, left, filled}
+use Rattle.sparse_rows.specs.declared.echelon.Reduction.{Reduction}
+use Rattle.sparse_rows.specs.declared.echelon.Reduction.the-variants as reduction
 use Rattle.lazy.specs.Lazy.{State, fill, lastUnit}
 use Rattle.lazy_setup.specs.declared.Layout.{Layout}
 use Rattle.lazy_setup.specs.declared.Stand.{Stand}

@@ -8,9 +8,9 @@ use lib.ListN.{length, take, drop, length-drop}
 use lib.Seq.{take-all, drop-length, length-take-le, take-at, drop-at}
 use Rattle.answers.specs.Sizes.{maxVariables}
 use Rattle.rows.specs.Picture.{Held}
-use Rattle.sparse.specs.Eliminate.{outerRow}
-use Rattle.sparse.specs.Reduce.{Reduces}
-use Rattle.sparse.specs.declared.echelon.Reduction.{Reduction}
+use Rattle.sparse_rules.specs.Eliminate.{outerRow}
+use Rattle.sparse_rows.specs.Reduce.{Reduces}
+use Rattle.sparse_rows.specs.declared.echelon.Reduction.{Reduction}
 use Rattle.lazy_units.specs.Clearing.{ClearFits, Cleared}
 
 pub tail-is : (a : ℕ) (l : List ℕ) → take (length l - a) (drop a l) ≡ drop a l

@@ -5,9 +5,9 @@ use Prim.Native.Nat.{ℕ, _+_, _≤_, _<_}
 use lib.ListN.{length, take, drop}
 use Rattle.answers.specs.Sizes.{maxVariables}
 use Rattle.rows.specs.Picture.{Held}
-use Rattle.sparse.specs.Eliminate.{outerRow}
-use Rattle.sparse.specs.Reduce.{Reduces}
-use Rattle.sparse.specs.declared.echelon.Reduction.{Reduction}
+use Rattle.sparse_rules.specs.Eliminate.{outerRow}
+use Rattle.sparse_rows.specs.Reduce.{Reduces}
+use Rattle.sparse_rows.specs.declared.echelon.Reduction.{Reduction}
 
 pub record ClearFits (dense n m d i : ℕ) (numbers words : List ℕ) : Type 0 where
   pub place : dense ≤ length numbers

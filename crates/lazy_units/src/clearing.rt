@@ -2,7 +2,7 @@
 use lazy_pops::Step;
 use lazy_setup::Layout;
 use lazy_setup::Stand;
-use sparse::echelon::Reduction;
+use sparse_rows::echelon::Reduction;
 ghost use mathlib.Core.List.{List};
 ghost use Rattle.gf2.specs.Equation.{Equation};
 ghost use Rattle.lazy.specs.Lazy.{State, denseRow};
@@ -22,7 +22,7 @@ fn clear_dense(
     requires { ⌜ ClearFits dense n m d i (now numbers) (now words) ⌝ }
     ensures { λ r. ⌜ Cleared dense n m d i (now (numbers .entry)) (now (words .entry)) (now (numbers .exit)) (now (words .exit)) r ⌝ }
 {
-    sparse::echelon::outer_row(&mut numbers[dense..], &mut words[m..], n, m, d, i)
+    sparse_rows::echelon::outer_row(&mut numbers[dense..], &mut words[m..], n, m, d, i)
 }
 
 // One outer row of the dense part, where it is not the last.

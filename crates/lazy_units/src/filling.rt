@@ -2,7 +2,7 @@
 use lazy_pops::Step;
 use lazy_setup::Layout;
 use lazy_setup::Stand;
-use sparse::echelon::Reduction;
+use sparse_rows::echelon::Reduction;
 ghost use mathlib.Core.Path.{_≡_};
 ghost use mathlib.Core.List.{List};
 ghost use Prim.Native.Nat.{ℕ};
@@ -67,7 +67,14 @@ pub fn finish(
     ensures { λ r. ⌜ ((sys : List Equation) (s : State) → UnitAt n m layout sys s stand (now (numbers .entry)) (now (words .entry)) (now (solution .entry)) → Over (lastUnit n s) r (now (solution .entry)) (now (solution .exit))) ⌝ }
 {
     let dense = layout.dense;
-    match sparse::back::finish_rows(&numbers[dense..], &words[m..], n, m, stand.dense, solution) {
+    match sparse_rows::back::finish_rows(
+        &numbers[dense..],
+        &words[m..],
+        n,
+        m,
+        stand.dense,
+        solution,
+    ) {
         Reduction::Unsolvable => Step::Unsolvable,
         Reduction::Reduced => {
             fill_solved(

@@ -7,8 +7,8 @@ use Rattle.gf2.specs.NumberLists.{upFrom, downFrom, keep, firstOf}
 use Rattle.areas.specs.Stretch.{stretch}
 use Rattle.system.specs.Fits.{listedIn}
 use Rattle.system.specs.System.{equationAt, equationsFrom, climbs, startsKept, risesBelow, lowestBad, sizesFit, shapeKept, systemRules}
-use Rattle.sparse.specs.Eliminate.{summed, meeting, meetRow, outerRow, outerRows, echelonForm, contradicted, pin, backSub, finish, gaussianElimination}
-use Rattle.sparse.specs.SparseCall.{sparseCall}
+use Rattle.sparse_rules.specs.Eliminate.{summed, meeting, meetRow, outerRow, outerRows, echelonForm, contradicted, pin, backSub, finish, gaussianElimination}
+use Rattle.sparse_rules.specs.SparseCall.{sparseCall}
 use Rattle.lazy.specs.Lazy.{lazyElimination, wholeRun, after, unit, pop, popEquation, popVariable, popDense, passOver, copy, solveFor, skip, activate, lowered, pushed, addedInto, denseRow, lastUnit, fill, start, heaviest, listing, others}
 use Rattle.lazy_units.specs.LazyCall.{lazyCall}
 use Rattle.link_form.specs.Bytes.{little, fields}

@@ -11,7 +11,7 @@ use Rattle.gf2.specs.Equation.{Equation}
 use Rattle.areas.specs.Stretch.{put}
 use Rattle.answers.specs.Calls.{Call}
 use Rattle.system.specs.Fits.{listedIn}
-use Rattle.sparse.specs.SparseCall.{sparseCall}
+use Rattle.sparse_rules.specs.SparseCall.{sparseCall}
 use Rattle.lazy_units.specs.LazyCall.{lazyCall}
 use Rattle.link_form.specs.File.{lazyKind}
 use Rattle.link_form.specs.Loading.{startsOf, varsOf, constantsOf}

@@ -9,8 +9,8 @@ use Rattle.gf2.specs.Equation.{Equation, MeetsAll}
 use Rattle.answers.specs.Calls.{Call, pick}
 use Rattle.answers.specs.declared.Answer.the-variants.{Solved}
 use Rattle.system.proofs.SolverCalls.{Lent}
-use Rattle.sparse.specs.SparseCall.{sparseCall}
-use Rattle.sparse.proofs.CallTheorems.{sparseCall-solves}
+use Rattle.sparse_rules.specs.SparseCall.{sparseCall}
+use Rattle.sparse_rules.proofs.CallTheorems.{sparseCall-solves}
 use Rattle.lazy_units.specs.LazyCall.{lazyCall}
 use Rattle.lazy_units.proofs.CallTheorems.{lazyCall-solves}
 use Rattle.link_form.specs.File.{lazyKind}

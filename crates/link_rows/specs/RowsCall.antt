@@ -5,7 +5,7 @@ use lib.ListN.{length}
 use lib.Dec.{eqb}
 use Rattle.gf2.specs.Equation.{Equation}
 use Rattle.answers.specs.Calls.{Call, pick}
-use Rattle.sparse.specs.SparseCall.{sparseCall}
+use Rattle.sparse_rules.specs.SparseCall.{sparseCall}
 use Rattle.lazy_units.specs.LazyCall.{lazyCall}
 use Rattle.link_form.specs.File.{lazyKind}
 use Rattle.link_form.specs.Loading.{startsOf, varsOf, constantsOf}

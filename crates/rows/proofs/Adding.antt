@@ -8,7 +8,7 @@ use lib.Bits.{bitXor}
 use Rattle.areas.specs.Stretch.{stretch, put}
 use Rattle.areas.specs.Rows.{padded}
 use Rattle.areas.proofs.Offsets.{row-before}
-use Rattle.equation.specs.AddFits.{AddFits}
+use Rattle.row_sums.specs.AddFits.{AddFits}
 use Rattle.gf2.specs.Equation.{Equation, Rising, symDiff, sum}
 use Rattle.gf2.proofs.SymDiff.{rising-symDiff}
 use Rattle.rows.specs.Picture.{Drawn, rowAt, added}

@@ -90,7 +90,7 @@ pub fn add_rows(numbers: &mut [u32], words: &mut [u64], n: usize, m: usize, i: u
     let lens = m * n + n;
     let li = numbers[lens + i] as usize;
     let lj = numbers[lens + j] as usize;
-    let k = equation::rows::add_into(numbers, n, i * n, li, j * n, lj, m * n);
+    let k = row_sums::add_into(numbers, n, i * n, li, j * n, lj, m * n);
     numbers[lens + i] = k as u32;
     words[i] = words[i] ^ words[j];
 }

@@ -1,14 +1,2 @@
-pub mod Meetings
-pub mod OuterRow
-pub mod BackSub
-pub mod Theorems
-pub mod Examples
-pub mod RandomExamples
-pub mod Cases
-pub mod Loops
-pub mod Backward
-pub mod Forward
-pub mod Rounds
-pub mod Whole
-pub mod Ladder
-pub mod CallTheorems
+pub mod Loading
+pub mod Running

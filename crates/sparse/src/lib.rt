@@ -2,12 +2,10 @@
 use answers::Answer;
 use answers::Rules;
 ghost use mathlib.Core.Path.{_≡_};
-ghost use Rattle.sparse.specs.SparseCall.{sparseCall};
+ghost use Rattle.sparse_rules.specs.SparseCall.{sparseCall};
 
-pub mod back;
-pub mod echelon;
 mod load;
-pub mod solve;
+mod solve;
 
 // Solves a sparse system of `m` equations in `n` variables.
 pub fn gaussian_elimination(

@@ -1,35 +1,14 @@
-// The rows are reduced, checked and solved.
+// The lent system is loaded, its rows are solved, and the rooms are zeroed.
 ghost use mathlib.Core.Path.{_≡_};
 ghost use Prim.Native.Nat.{_≤_};
-ghost use lib.ListN.{length, take, drop};
-ghost use Rattle.answers.specs.Sizes.{maxVariables, sparseNumbers, sparseWords};
+ghost use lib.ListN.{length};
+ghost use Rattle.answers.specs.Sizes.{sparseNumbers, sparseWords};
 ghost use Rattle.answers.specs.Calls.{ran};
-ghost use Rattle.rows.specs.Picture.{Held, Kept, rowsOf};
 ghost use Rattle.system.specs.System.{equations};
 ghost use Rattle.system.specs.Fits.{Fits};
-ghost use Rattle.sparse.specs.Eliminate.{gaussianElimination};
-ghost use Rattle.sparse.specs.Reduce.{FinishedBy};
-use crate::echelon::Reduction;
+ghost use Rattle.sparse_rules.specs.Eliminate.{gaussianElimination};
 use answers::Answer;
-
-// Solves the first `d` rows; the solution is written only where there is one.
-pub fn solve_rows(
-    numbers: &mut [u32],
-    words: &mut [u64],
-    n: usize,
-    m: usize,
-    d: usize,
-    solution: &mut [u64],
-) -> Reduction
-    requires { ⌜ Held n m (now numbers) (now words) × (d ≤ m) × (n ≤ maxVariables) × (length (now solution) ≡ n) ⌝ }
-    ensures { λ r. ⌜ FinishedBy (gaussianElimination n (take d (rowsOf n m (now (numbers .entry)) (now (words .entry))))) (now (solution .entry)) (now (solution .exit)) r ⌝ }
-    ensures { λ _. ⌜ Kept n m (drop (sparseNumbers n m) (now (numbers .entry))) (drop (sparseWords m) (now (words .entry))) (now (numbers .exit)) (now (words .exit)) ⌝ }
-{
-    match crate::echelon::echelon_form(numbers, words, n, m, d) {
-        Reduction::Unsolvable => Reduction::Unsolvable,
-        Reduction::Reduced => crate::back::finish_rows(numbers, words, n, m, d, solution),
-    }
-}
+use sparse_rows::echelon::Reduction;
 
 // The run of a call that is not refused: the rooms are zero afterwards.
 pub fn run(
@@ -49,7 +28,7 @@ pub fn run(
     ensures { λ _. ⌜ now (words .exit) ≡ ran (sparseNumbers n m) (sparseWords m) (gaussianElimination n (equations m (now (starts .entry)) (now (vars .entry)) (now (constants .entry)))) (now (solution .entry)) (now (numbers .entry)) (now (words .entry)) .words ⌝ }
 {
     crate::load::load(n, m, starts, vars, constants, numbers, words);
-    let r = solve_rows(numbers, words, n, m, m, solution);
+    let r = sparse_rows::solve::solve_rows(numbers, words, n, m, m, solution);
     rows::clear(numbers, words, n, m);
     match r {
         Reduction::Unsolvable => Answer::Unsolvable,

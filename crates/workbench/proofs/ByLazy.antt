@@ -5,7 +5,7 @@ use Rattle.workbench.specs.Bench.{Comes, comesTo, lazyLines}
 use Rattle.gf2.specs.NumberLists.{upFrom, downFrom, keep, firstOf}
 use Rattle.areas.specs.Stretch.{stretch, cleared}
 use Rattle.system.specs.System.{equationAt, equationsFrom, climbs, startsKept, risesBelow, lowestBad, sizesFit, shapeKept, systemRules}
-use Rattle.sparse.specs.Eliminate.{summed, meeting, meetRow, outerRow, contradicted, pin, backSub}
+use Rattle.sparse_rules.specs.Eliminate.{summed, meeting, meetRow, outerRow, contradicted, pin, backSub}
 use Rattle.lazy.specs.Lazy.{lazyElimination, wholeRun, after, unit, pop, popEquation, popVariable, popDense, passOver, copy, solveFor, skip, activate, lowered, pushed, addedInto, denseRow, lastUnit, fill, start, heaviest, listing, others}
 use Rattle.lazy_units.specs.LazyCall.{lazyCall}
 

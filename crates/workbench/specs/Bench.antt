@@ -9,7 +9,7 @@ use Rattle.answers.specs.Calls.{Call}
 use Rattle.answers.specs.declared.Answer.{Answer}
 use Rattle.answers.specs.declared.Answer.the-variants.{Solved, TooLarge, BadShape, BadEntry, WrongSolution, ShortArea, Unsolvable, CrowdedVertex, Stuck, BadFile, OutsideDomain}
 use Rattle.equation.specs.Sums.{SumCall, sumCall}
-use Rattle.sparse.specs.SparseCall.{sparseCall}
+use Rattle.sparse_rules.specs.SparseCall.{sparseCall}
 use Rattle.dense.specs.Call.{denseCall}
 use Rattle.lazy_units.specs.LazyCall.{lazyCall}
 use Rattle.peeling.specs.declared.numbers.Edge.{Edge}

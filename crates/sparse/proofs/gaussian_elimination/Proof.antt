@@ -2,7 +2,7 @@
 use mathlib.Core.Path.{_≡_, sym, _∙_}
 use Prim.Native.Nat.{ℕ, _≤_}
 use Rattle.system.proofs.Soundness.{kept-sound}
-use Rattle.sparse.proofs.Ladder.{call-broken, call-wrong, call-short-numbers, call-short-words, call-run}
+use Rattle.sparse_rules.proofs.Ladder.{call-broken, call-wrong, call-short-numbers, call-short-words, call-run}
 use native.Mathlib.Omega.{arith}
 use borrow.Author.Needs.{needs}
 use Rattle.sparse.proofs.gaussian_elimination.Statement.{statement}

@@ -37,8 +37,10 @@ returns : tie.Need-returns
 returns c =
     let p = c .before .before .before .before .before .before .before .before .before .before .before .before .before .before .before .before .before .before .before .before .before .before .before .before .before .before .before .before .before .before .before .before .pre in let e = c .before .before .before .before .before .before .before .before .before .before .before .before .before .before .before .before .before .before .before .before .before .before .before .setup .ensures in (
       built (p .0) _ _ _ (open-at (p .0) _ _ _ _ _ (p .1) (p .2) (p .3) (e .0) (e .1 .0) (e .1 .1) (c .before .before .before .before .before .before .before .before .before .before .before .before .before .before .before .before .before .before .of .ensures)) (c .before .before .before .before .before .before .before .before .before .before .before .before .before .before .run-units .ensures),
-      (c .before .before .before .before .before .before .sweep .ensures ∙ ap (λ (k : ℕ). replicate k 0) (c .before .before .before .before .before .before .before .before .before .before .before .before .before .numbers2 .given ∙ c .before .before .before .before .before .before .before .before .before .before .before .before .before .before .before .before .before .before .before .before .before .before .numbers .given),
-      words-zero _ _ (c .before .before .before .before .before .before .before .before .before .before .before .before .before .before .run-units .last .1 .0) _ (c .before .before .zero-words .ensures) refl (c .before .before .before .before .before .before .before .before .before .before .before .words2 .given ∙ c .before .before .before .before .before .before .before .before .before .before .before .before .before .before .before .before .before .before .before .before .words .given)),
+      (
+        c .before .before .before .before .before .before .sweep .ensures ∙ ap (λ (k : ℕ). replicate k 0) (c .before .before .before .before .before .before .before .before .before .before .before .before .before .numbers2 .given ∙ c .before .before .before .before .before .before .before .before .before .before .before .before .before .before .before .before .before .before .before .before .before .before .numbers .given),
+        words-zero _ _ (c .before .before .before .before .before .before .before .before .before .before .before .before .before .before .run-units .last .1 .0) _ (c .before .before .zero-words .ensures) refl (c .before .before .before .before .before .before .before .before .before .before .before .words2 .given ∙ c .before .before .before .before .before .before .before .before .before .before .before .before .before .before .before .before .before .before .before .before .words .given),
+      ),
     )
 
 pub build-spec : {M : Type 1} → statement M

@@ -4,7 +4,7 @@ use Prim.Native.Nat.{ℕ, _+_, _-_, _≤_}
 use lib.ListN.{length, drop}
 use Rattle.answers.specs.Sizes.{sparseNumbers, sparseWords}
 use Rattle.system.specs.System.{equations}
-use Rattle.sparse.proofs.Whole.{Loading, loading-begin, loading-held, loading-empty, loading-turn, loading-end, equation-read, equation-rising, loaded-all}
+use Rattle.sparse.proofs.Loading.{Loading, loading-begin, loading-held, loading-empty, loading-turn, loading-end, equation-read, equation-rising, loaded-all}
 use borrow.Author.Needs.{needs}
 use native.Mathlib.Omega.{arith}
 use Rattle.sparse.proofs.load.load.Statement.{statement}

@@ -2,7 +2,7 @@
 use Prim.Native.Nat.{ℕ, _≤_}
 use native.Mathlib.Nat.{le-refl}
 use Rattle.rows.proofs.Holding.{held}
-use Rattle.sparse.proofs.Whole.{run-refused, run-solved}
+use Rattle.sparse.proofs.Running.{run-refused, run-solved}
 use native.Mathlib.Omega.{arith}
 use borrow.Author.Needs.{needs}
 use Rattle.sparse.proofs.solve.run.Statement.{statement}

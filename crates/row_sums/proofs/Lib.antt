@@ -1,0 +1,3 @@
+pub mod InRoom
+pub mod GatherRows
+pub mod SettleRow

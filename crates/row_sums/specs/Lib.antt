@@ -1,0 +1,2 @@
+pub mod AddFits
+pub mod Ended

@@ -1,3 +1,0 @@
-pub mod Eliminate
-pub mod Reduce
-pub mod SparseCall

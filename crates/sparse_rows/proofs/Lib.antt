@@ -1,0 +1,5 @@
+pub mod Loops
+pub mod Backward
+pub mod Forward
+pub mod Rounds
+pub mod Solving

@@ -1,0 +1,46 @@
+-- What the steps of the elimination leave in areas that hold rows.
+use mathlib.Core.Path.{_≡_}
+use mathlib.Core.List.{List, [], _∷_, _++_}
+use Prim.Native.Nat.{ℕ}
+use lib.ListN.{length, getD, set, take, drop}
+use Rattle.gf2.specs.Equation.{Equation}
+use Rattle.gf2.specs.Result.{Result, unsolvable, ok}
+use Rattle.answers.specs.Sizes.{sparseNumbers, sparseWords}
+use Rattle.rows.specs.Picture.{Drawn, Kept, rowsOf, rowAt}
+use Rattle.sparse_rules.specs.Eliminate.{Meeting, clash, identity, both, meeting, summed, outerRow, echelonForm}
+use Rattle.sparse_rows.specs.declared.echelon.Met.{Met}
+use Rattle.sparse_rows.specs.declared.echelon.Met.the-variants.{Clash, Identity, Both}
+use Rattle.sparse_rows.specs.declared.echelon.Reduction.{Reduction}
+use Rattle.sparse_rows.specs.declared.echelon.Reduction.the-variants.{Unsolvable, Reduced}
+
+-- rows i and j met, and o came of it
+pub data MetBy (n m i j : ℕ) (rows : List Equation) (rest rest′ : List ℕ) (o : Meeting) (numbers words : List ℕ) : Met → Type 0 where
+  clashed : o ≡ clash → Kept n m rest rest′ numbers words → MetBy n m i j rows rest rest′ o numbers words Clash
+  vanished : (i′ : Equation) → o ≡ identity i′ → Drawn n m (set rows i i′) rest rest′ numbers words → MetBy n m i j rows rest rest′ o numbers words Identity
+  paired : (i′ j′ : Equation) → o ≡ both i′ j′ → Drawn n m (set (set rows i i′) j j′) rest rest′ numbers words → MetBy n m i j rows rest rest′ o numbers words Both
+
+-- the first d rows came to o, and the others are as they were
+pub data ReducedBy (n m d : ℕ) (rows : List Equation) (rest rest′ : List ℕ) (o : Result (List Equation)) (numbers words : List ℕ) : Reduction → Type 0 where
+  refused : o ≡ unsolvable → Kept n m rest rest′ numbers words → ReducedBy n m d rows rest rest′ o numbers words Unsolvable
+  reduced : (rows′ : List Equation) → o ≡ ok rows′ → Drawn n m (rows′ ++ drop d rows) rest rest′ numbers words → ReducedBy n m d rows rest rest′ o numbers words Reduced
+
+-- the values that were solved for, or the vector as it was
+pub data FinishedBy (o : Result (List ℕ)) (x x′ : List ℕ) : Reduction → Type 0 where
+  left : o ≡ unsolvable → x′ ≡ x → FinishedBy o x x′ Unsolvable
+  filled : o ≡ ok x′ → FinishedBy o x x′ Reduced
+
+-- ---- of areas, at entry and at exit
+
+abbrev pub MeetsRows : (Equation → Equation → Meeting) → ℕ → ℕ → ℕ → ℕ → List ℕ → List ℕ → List ℕ → List ℕ → Met → Type 0
+MeetsRows f n m i j numbers words numbers′ words′ r =
+    MetBy n m i j (rowsOf n m numbers words) (drop (sparseNumbers n m) numbers) (drop (sparseWords m) words)
+    (f (rowAt (rowsOf n m numbers words) i) (rowAt (rowsOf n m numbers words) j)) numbers′ words′ r
+
+abbrev pub Reduces : (List Equation → Result (List Equation)) → ℕ → ℕ → ℕ → List ℕ → List ℕ → List ℕ → List ℕ → Reduction → Type 0
+Reduces f n m d numbers words numbers′ words′ r =
+    ReducedBy n m d (rowsOf n m numbers words) (drop (sparseNumbers n m) numbers) (drop (sparseWords m) words)
+    (f (take d (rowsOf n m numbers words))) numbers′ words′ r
+
+-- the row i after a sum against the row j
+abbrev pub summedWith : Equation → Equation → Meeting
+summedWith i j = summed i (getD (j .vars) 0 0) j

@@ -1,0 +1,131 @@
+// The rows to echelon form, one outer row at a time.
+ghost use mathlib.Core.Path.{_≡_};
+ghost use Prim.Native.Nat.{_+_, _≤_, _<_};
+ghost use Rattle.answers.specs.Sizes.{maxVariables};
+ghost use Rattle.rows.specs.Picture.{Held};
+ghost use Rattle.sparse_rules.specs.Eliminate.{meeting, outerRow, echelonForm};
+ghost use Rattle.sparse_rows.specs.Reduce.{MeetsRows, Reduces, summedWith};
+
+// What came of a meeting of row i and a later row j.
+pub enum Met {
+    // An equation without variables whose constant is not 0.
+    Clash,
+    // Row i is 0 = 0 now.
+    Identity,
+    Both,
+}
+
+// What came of an elimination of rows.
+pub enum Reduction {
+    Unsolvable,
+    Reduced,
+}
+
+// Row `i` is a sum: where its first variable is above that of row `j`, the two change places.
+fn summed_rows(
+    numbers: &mut [u32],
+    words: &mut [u64],
+    n: usize,
+    m: usize,
+    i: usize,
+    j: usize,
+) -> Met
+    requires { ⌜ Held n m (now numbers) (now words) × (i < j) × (j < m) ⌝ }
+    ensures { λ r. ⌜ MeetsRows summedWith n m i j (now (numbers .entry)) (now (words .entry)) (now (numbers .exit)) (now (words .exit)) r ⌝ }
+{
+    if numbers[m * n + n + i] == 0 {
+        if words[i] != 0 {
+            return Met::Clash;
+        }
+        return Met::Identity;
+    }
+    let u = numbers[i * n];
+    let v = numbers[j * n];
+    if v < u {
+        rows::swap_rows(numbers, words, n, m, i, j);
+        return Met::Both;
+    }
+    Met::Both
+}
+
+// Row `i` meets the later row `j`.
+fn meet_rows(numbers: &mut [u32], words: &mut [u64], n: usize, m: usize, i: usize, j: usize) -> Met
+    requires { ⌜ Held n m (now numbers) (now words) × (i < j) × (j < m) × (n ≤ maxVariables) ⌝ }
+    ensures { λ r. ⌜ MeetsRows meeting n m i j (now (numbers .entry)) (now (words .entry)) (now (numbers .exit)) (now (words .exit)) r ⌝ }
+{
+    if numbers[m * n + n + j] == 0 {
+        if words[j] != 0 {
+            return Met::Clash;
+        }
+        return Met::Both;
+    }
+    if numbers[m * n + n + i] == 0 {
+        return Met::Both;
+    }
+    let u = numbers[i * n];
+    let v = numbers[j * n];
+    if u < v {
+        return Met::Both;
+    }
+    if v < u {
+        rows::swap_rows(numbers, words, n, m, i, j);
+        return Met::Both;
+    }
+    rows::add_rows(numbers, words, n, m, i, j);
+    summed_rows(numbers, words, n, m, i, j)
+}
+
+// One outer row: row `i` meets each later row of the first `d`.
+pub fn outer_row(
+    numbers: &mut [u32],
+    words: &mut [u64],
+    n: usize,
+    m: usize,
+    d: usize,
+    i: usize,
+) -> Reduction
+    requires { ⌜ Held n m (now numbers) (now words) × (i < d) × (d ≤ m) × (n ≤ maxVariables) ⌝ }
+    ensures { λ r. ⌜ Reduces (outerRow i) n m d (now (numbers .entry)) (now (words .entry)) (now (numbers .exit)) (now (words .exit)) r ⌝ }
+{
+    if numbers[m * n + n + i] == 0 {
+        if words[i] != 0 {
+            return Reduction::Unsolvable;
+        }
+        return Reduction::Reduced;
+    }
+    let mut u = numbers[i * n];
+    let mut j = i + 1;
+    while j < d {
+        // Most rows begin above row i; an empty one begins with 0.
+        if numbers[j * n] <= u {
+            match meet_rows(numbers, words, n, m, i, j) {
+                Met::Clash => return Reduction::Unsolvable,
+                Met::Identity => return Reduction::Reduced,
+                Met::Both => u = numbers[i * n],
+            }
+        }
+        j += 1;
+    }
+    Reduction::Reduced
+}
+
+// The first `d` rows to echelon form: every row but the last is an outer row.
+pub fn echelon_form(
+    numbers: &mut [u32],
+    words: &mut [u64],
+    n: usize,
+    m: usize,
+    d: usize,
+) -> Reduction
+    requires { ⌜ Held n m (now numbers) (now words) × (d ≤ m) × (n ≤ maxVariables) ⌝ }
+    ensures { λ r. ⌜ Reduces echelonForm n m d (now (numbers .entry)) (now (words .entry)) (now (numbers .exit)) (now (words .exit)) r ⌝ }
+{
+    let mut i = 0;
+    while i + 1 < d {
+        match outer_row(numbers, words, n, m, d, i) {
+            Reduction::Unsolvable => return Reduction::Unsolvable,
+            Reduction::Reduced => i += 1,
+        }
+    }
+    Reduction::Reduced
+}

@@ -1,0 +1,55 @@
+-- The theorems of sparse elimination, of its public call: what the solution slice holds after 0, and when the answer is 6.
+use mathlib.Core.Path.{_≡_}
+use mathlib.Core.Logic.{_↔_}
+use mathlib.Core.Bool.{Bool, true}
+use mathlib.Core.List.{List}
+use Prim.Native.Nat.{ℕ, _<_, _^_}
+use lib.ListN.{length, getD}
+use Rattle.gf2.specs.Equation.{Each, MeetsAll}
+use Rattle.gf2.specs.Span.{Cancels}
+use Rattle.gf2.specs.Canonical.{Canonical}
+use Rattle.gf2.specs.Ours.{Apart, ourPart}
+use Rattle.answers.specs.Calls.{Call}
+use Rattle.answers.specs.Sizes.{sparseNumbers, sparseWords}
+use Rattle.answers.specs.declared.Answer.the-variants.{Solved, Unsolvable}
+use Rattle.system.proofs.SolverCalls.{Lent, system, Runs, solved, call-solves, call-exact, call-narrow, call-isolated}
+use Rattle.sparse_rules.specs.Eliminate.{gaussianElimination}
+use Rattle.sparse_rules.specs.SparseCall.{sparseCall}
+use Rattle.sparse_rules.proofs.Theorems.{sparse-solves, sparse-exact, sparse-narrow, sparse-isolated, sparse-canonical}
+
+abbrev numbersRoom : ℕ → ℕ → ℕ → ℕ
+numbersRoom n m t = sparseNumbers n m
+
+abbrev wordsRoom : ℕ → ℕ → ℕ → ℕ
+wordsRoom n m t = sparseWords m
+
+-- the call on what is lent
+abbrev pub sparseOn : ℕ → Lent → Call
+sparseOn n l = sparseCall n (l .m) (l .starts) (l .vars) (l .constants) (l .solution) (l .numbers) (l .words)
+
+-- no refusal from 1 to 5
+abbrev pub SparseRuns : ℕ → Lent → Type 0
+SparseRuns n l = Runs gaussianElimination numbersRoom wordsRoom sparse-solves sparse-exact sparse-narrow sparse-isolated n l
+
+pub sparseCall-solves : (n : ℕ) (l : Lent) → sparseOn n l .answer ≡ Solved → (length (sparseOn n l .solution) ≡ n) × MeetsAll (sparseOn n l .solution) (system l)
+unfolding sparseCall
+sparseCall-solves n l = call-solves gaussianElimination numbersRoom wordsRoom sparse-solves sparse-exact sparse-narrow sparse-isolated n l
+
+pub sparseCall-canonical : (n : ℕ) (l : Lent) → sparseOn n l .answer ≡ Solved → Canonical n (system l) (sparseOn n l .solution)
+unfolding sparseCall
+sparseCall-canonical n l e =
+    let s = solved gaussianElimination numbersRoom wordsRoom sparse-solves sparse-exact sparse-narrow sparse-isolated n l e in
+    sparse-canonical n (system l) (s .0 .sorted) (s .0 .below) (sparseOn n l .solution) (s .1)
+
+pub sparseCall-exact : (n : ℕ) (l : Lent) → SparseRuns n l → (sparseOn n l .answer ≡ Unsolvable) ↔ ((mask : List Bool) × Cancels mask (system l))
+unfolding sparseCall
+sparseCall-exact n l = call-exact gaussianElimination numbersRoom wordsRoom sparse-solves sparse-exact sparse-narrow sparse-isolated n l
+
+pub sparseCall-narrow : (n : ℕ) (l : Lent) (k : ℕ) → Each (λ e. e .c < 2 ^ k) (system l) → sparseOn n l .answer ≡ Solved → (v : ℕ) → getD (sparseOn n l .solution) v 0 < 2 ^ k
+unfolding sparseCall
+sparseCall-narrow n l = call-narrow gaussianElimination numbersRoom wordsRoom sparse-solves sparse-exact sparse-narrow sparse-isolated n l
+
+pub sparseCall-isolated : (P : ℕ → Bool) (n : ℕ) (a b : Lent) → Apart P (system a) → Apart P (system b) → ourPart P (system a) ≡ ourPart P (system b)
+    → sparseOn n a .answer ≡ Solved → sparseOn n b .answer ≡ Solved → (v : ℕ) → P v ≡ true → getD (sparseOn n a .solution) v 0 ≡ getD (sparseOn n b .solution) v 0
+unfolding sparseCall
+sparseCall-isolated P n a b = call-isolated gaussianElimination numbersRoom wordsRoom sparse-solves sparse-exact sparse-narrow sparse-isolated P n a b

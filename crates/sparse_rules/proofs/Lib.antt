@@ -1,0 +1,9 @@
+pub mod Meetings
+pub mod OuterRow
+pub mod BackSub
+pub mod Theorems
+pub mod Examples
+pub mod RandomExamples
+pub mod Cases
+pub mod Ladder
+pub mod CallTheorems

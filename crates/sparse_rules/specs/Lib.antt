@@ -1,0 +1,2 @@
+pub mod Eliminate
+pub mod SparseCall

@@ -1,0 +1,1 @@
+// The rules of sparse elimination: definitions in specs/, laws in proofs/, no code.
