@@ -123,7 +123,7 @@ module _ {n m : ℕ} {layout : Layout} {sys : List Equation} {s : State} {e : �
       )
 
   pub pop-clash : getD numbers (layout .lengths + e) 0 ≡ 0 → getD words e 0 ≢ 0 → After n m layout sys (popDense e es s) Unsolvable numbers words
-  pop-clash h g = rw (dense-clash e es s (sym size-is ∙ h) (λ z. g (constant-is ∙ z))) tt
+  pop-clash h g = rw (dense-clash e es s (sym size-is ∙ h) (λ z. g (constant-is ∙ z))) (record { s = passOver es s; laid = a .shows .laid })
 
   pub pop-identity : getD numbers (layout .lengths + e) 0 ≡ 0 → getD words e 0 ≡ 0 → After n m layout sys (popDense e es s) (More stand) numbers words
   unfolding passOver wordsOf

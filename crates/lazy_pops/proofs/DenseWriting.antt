@@ -3,7 +3,6 @@ use mathlib.Core.Path.{_≡_, refl, sym, ap, ap₂, _∙_}
 use mathlib.Core.Logic.{inl}
 use mathlib.Core.List.{List, [], _∷_, _++_, append-nil, append-assoc, map, map-append}
 use Prim.Native.Nat.{ℕ, zero, suc, _+_, _-_, _*_, _≤_, _<_}
-use native.Mathlib.Nat.{zero-add, suc-add}
 use native.Mathlib.Omega.{arith}
 use lib.ListN.{length, getD, set, replicate, length-set, length-map, length-append, length-replicate, List·getD-map, List·getD-append}
 use Rattle.gf2.specs.Equation.{Equation}
@@ -15,6 +14,7 @@ use Rattle.areas.specs.Rows.{padded, laid, Narrow}
 use Rattle.areas.proofs.Offsets.{row-before, row-begins}
 use Rattle.areas.proofs.Rows.{length-laid, length-padded, laid-append, laid-cons, laid-nil, padded-zeros}
 use Rattle.areas.proofs.Stretch.{length-put, put-append-left}
+use Rattle.rows.proofs.Put.{set-after}
 use Rattle.lazy.specs.Lazy.{State}
 use Rattle.lazy_setup.specs.declared.Layout.{Layout}
 use Rattle.lazy_setup.specs.Area.{segments, lengths, rowsOf, densePart, wordsOf}
@@ -50,11 +50,7 @@ narrow-more n (x ∷ rows) r f h zero k = f zero (omega arith)
 narrow-more n (x ∷ rows) r f h (suc i) k = narrow-more n rows r (λ j q. f (suc j) (omega arith)) h i (omega arith)
 
 set-right : (a l : List ℕ) (k i x : ℕ) → length a ≡ k → set (a ++ l) (k + i) x ≡ a ++ set l i x
-set-right a l k i x h = rw (← h) (go a)
-  where
-    go : (a : List ℕ) → set (a ++ l) (length a + i) x ≡ a ++ set l i x
-    go [] = rw zero-add
-    go (y ∷ a) = rw suc-add (ap (λ (r : List ℕ). y ∷ r) (go a))
+set-right a l k i x h = rw (← h) (set-after a l i x)
 
 -- the cells that are read and written
 pub record CopyCells (n m dense e len d : ℕ) (numbers words : List ℕ) : Type 0 where

@@ -13,17 +13,12 @@ use lib.Seq.{drop-cons}
 use lib.Dec.{eqb}
 use Rattle.gf2.proofs.Tests.{eqb-same, eqb-ne}
 use Rattle.areas.specs.Stretch.{stretch, put}
-use Rattle.areas.proofs.Stretch.{length-stretch, length-put, put-stretch, put-comm, put-append, put-put-inside, set-is-put, getD-stretch, getD-put, getD-put-before}
+use Rattle.areas.proofs.Behind.{put-behind}
+use Rattle.areas.proofs.Stretch.{length-stretch, length-put, put-stretch, put-comm, put-put-inside, set-is-put, getD-stretch, getD-put, getD-put-before}
 use Rattle.gf2.specs.NumberLists.{keep}
 use Rattle.lazy.specs.Lazy.{lowered, pushed}
 use Rattle.lazy_pops.specs.Lowering.{but, Lowers, LowerFits, LowerOneFits, nowPushed, loweredIn, lowerOne, topAfter}
 use Rattle.lazy_pops.proofs.Stacks.{but-same, but-other, lowered-cons, pushed-on, pushed-two, pushed-longer}
-
--- one more after what was written
-put-snoc : (b n : ℕ) (s : List ℕ) (v : ℕ) (l : List ℕ) → length s ≡ n → b + n < length l → put b (s ++ (v ∷ [])) l ≡ put (b + n) (v ∷ []) (put b s l)
-put-snoc b n s v l h g =
-    put-append b s (v ∷ []) l (omega arith)
-    ∙ rw h (put-comm b (b + n) s (v ∷ []) l (omega arith) (omega arith))
 
 pub record LoweringIn (area₀ : List ℕ) (list count skip prio m stack top : ℕ) (area : List ℕ) (k t : ℕ) : Type 0 where
   pub fits : LowerFits area₀ list count skip prio m stack top
@@ -225,7 +220,7 @@ module _ {area₀ : List ℕ} {list count skip prio m stack top : ℕ} {area : L
         pushed-there =
             let r = room-here w in let y = i .fits .stack-last in
             let l : length (reverse (i .equations)) ≡ t = length-reverse (i .equations) ∙ i .high in
-            rw (reverse-cons f (i .equations)) (sym (put-snoc stack t (reverse (i .equations)) f area₀ l (omega arith)))
+            rw (reverse-cons f (i .equations)) (rw l at (put-behind stack (reverse (i .equations)) (f ∷ []) area₀ (omega arith)))
 
     pub turn-on : LoweringIn area₀ list count skip prio m stack top (lowerOne area prio stack t (getD area (list + k) 0)) (k + 1) (topAfter area prio t (getD area (list + k) 0))
     turn-on = rw f-is (go (ℕ-discrete (getD (i .priority) f 0) 2))

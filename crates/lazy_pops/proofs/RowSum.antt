@@ -20,6 +20,7 @@ use Rattle.areas.proofs.Rows.{length-laid, length-padded, stretch-laid, put-lai
 use Rattle.areas.proofs.Segments.{offset-set}
 use Rattle.areas.proofs.Stretch.{stretch-at, length-put}
 use Rattle.row_sums.specs.AddFits.{AddFits}
+use Rattle.rows.proofs.Put.{map-set}
 use Rattle.lazy.specs.Lazy.{State}
 use Rattle.lazy_setup.specs.declared.Layout.{Layout}
 use Rattle.lazy_setup.specs.Area.{segments, numbersOf, lengths, rowsOf, wordsOf}
@@ -29,7 +30,7 @@ use Rattle.lazy_pops.specs.Adding.{withRows, addOne, RowsAt, AddAt, AddD
 use Rattle.lazy_pops.proofs.Places.{Places, places, segmented}
 use Rattle.lazy_pops.proofs.Reading.{size, lengths-place, dense-place, row-at, read-length}
 use Rattle.lazy_pops.proofs.Segmented.{Segmented, read-part, write-cell, write-part}
-use Rattle.lazy_pops.proofs.Writing.{relaid, map-set}
+use Rattle.lazy_pops.proofs.Writing.{relaid}
 
 abbrev varsOf : Equation → List ℕ
 varsOf r = r .vars

@@ -12,6 +12,7 @@ use Rattle.areas.specs.Stretch.{put}
 use Rattle.areas.specs.Rows.{padded}
 use Rattle.areas.proofs.Stretch.{put-all}
 use Rattle.areas.proofs.Segments.{offset-set}
+use Rattle.rows.proofs.Put.{map-set}
 use Rattle.lazy.specs.Lazy.{State, Solved, listing, lowered, pushed, skip, passOver}
 use Rattle.lazy.proofs.Priorities.{length-lowered}
 use Rattle.lazy_setup.specs.declared.Layout.{Layout}
@@ -24,11 +25,6 @@ use Rattle.lazy_pops.proofs.Places.{segmented}
 use Rattle.lazy_pops.proofs.Padding.{push-padded, pop-padded, over-padded}
 use Rattle.lazy_pops.proofs.Reading.{size, weight-place, variables-place, idle-place, priority-place, equations-place, solved-place, pivots-place}
 use Rattle.lazy_pops.proofs.Stacks.{pushed-longer}
-
-pub map-set : {A B : Type 0} (f : A → B) (l : List A) (i : ℕ) (a : A) → map f (set l i a) ≡ set (map f l) i (f a)
-map-set f [] i a = refl
-map-set f (x ∷ xs) zero a = refl
-map-set f (x ∷ xs) (suc i) a = ap (λ t. f x ∷ t) (map-set f xs i a)
 
 module _ {n m : ℕ} {layout : Layout} {sys : List Equation} {s : State} {numbers : List ℕ} (d : Laid n m layout sys s numbers) where
   -- the segments of another state of the same system

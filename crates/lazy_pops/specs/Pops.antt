@@ -42,6 +42,11 @@ pub record VariableReady (m : ℕ) (layout : Layout) (stand : Stand) (numbers : 
   pub vs : List ℕ
   pub at : VariableAt n m layout sys s v vs stand numbers
 
+-- a pop that refuses leaves a picture of some state
+pub record Stopped (n m : ℕ) (layout : Layout) (sys : List Equation) (numbers : List ℕ) : Type 0 where
+  pub s : State
+  pub laid : Laid n m layout sys s numbers
+
 -- what a pop leaves
 abbrev pub After : ℕ → ℕ → Layout → List Equation → Result State → Step → List ℕ → List ℕ → Type 0
 After n m layout sys (ok s) (More stand) numbers words = Shows n m layout sys s stand numbers × (words ≡ wordsOf sys s)
@@ -49,7 +54,7 @@ After n m layout sys (ok s) Solved numbers words = ⊥
 After n m layout sys (ok s) Unsolvable numbers words = ⊥
 After n m layout sys unsolvable (More stand) numbers words = ⊥
 After n m layout sys unsolvable Solved numbers words = ⊥
-After n m layout sys unsolvable Unsolvable numbers words = Unit {0}
+After n m layout sys unsolvable Unsolvable numbers words = Stopped n m layout sys numbers
 
 -- equation e, of priority p, was popped in state s, and es are left
 pub record EquationAt (n m : ℕ) (layout : Layout) (sys : List Equation) (s : State) (e : ℕ) (es : List ℕ) (p : ℕ) (stand : Stand) (numbers words : List ℕ) : Type 0 where

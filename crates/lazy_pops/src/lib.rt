@@ -1,7 +1,7 @@
 // The pops of lazy elimination, on its work areas.
 use lazy_setup::Stand;
 
-pub mod dense;
+pub mod copying;
 pub mod lowering;
 pub mod popping;
 pub mod solving;

@@ -1,6 +1,6 @@
 // One pop: from the equation list while it has one, else from the variable list.
 use crate::Step;
-use crate::dense::pop_dense;
+use crate::copying::pop_dense;
 use crate::solving::solve_for;
 use crate::variables::pop_variable;
 use lazy_setup::Layout;

@@ -4,7 +4,7 @@ use mathlib.Core.List.{List, [], _∷_, _++_, append-nil, map}
 use Prim.Native.Nat.{ℕ, zero, suc, _+_, _-_, _*_, _≤_, _<_}
 use native.Mathlib.Numerals.{add-one}
 use native.Mathlib.Omega.{arith}
-use lib.ListN.{length, take, drop, replicate, length-append, length-map, length-replicate, take-append-drop}
+use lib.ListN.{length, take, drop, replicate, length-append, length-map, length-replicate, length-drop, take-append-drop}
 use lib.Seq.{take-at}
 use Rattle.gf2.specs.Equation.{Equation, Each, Rising}
 use Rattle.gf2.specs.ByNumber.{blank}
@@ -13,7 +13,8 @@ use Rattle.gf2.proofs.Each.{each-take}
 use Rattle.areas.specs.Rows.{padded}
 use Rattle.areas.proofs.Rows.{length-padded}
 use Rattle.rows.specs.Picture.{picture, Drawn, Held, constantOf, rowsOf}
-use Rattle.rows.proofs.Holding.{held, carried}
+use Rattle.rows.proofs.Holding.{held, carried, drawn-padded}
+use Rattle.rows.proofs.Padding.{padded-agree}
 use Rattle.sparse_rules.specs.Eliminate.{outerRow}
 use Rattle.sparse_rows.specs.Reduce.{ReducedBy, refused, reduced, Reduces}
 use Rattle.sparse_rows.specs.declared.echelon.Reduction.{Reduction}
@@ -32,6 +33,7 @@ use Rattle.lazy_pops.proofs.Places.{Places, places}
 use Rattle.lazy_units.specs.Clearing.{ClearFits, Cleared}
 use Rattle.lazy_units.specs.Units.{Fit, Stands, left, Going, ClearAt}
 use Rattle.lazy_units.proofs.DensePart.{filled, rising-narrows, part-is-picture, words-are-constants, part-long, dense-drawn, in-use, not-in-use}
+use Rattle.lazy_units.proofs.Tidying.{laid-tidy}
 use Rattle.lazy_units.proofs.Ends.{withDense, numbers-end, write-end, words-end, words-front, write-words}
 
 pub record ReducedTo (n m d : ℕ) (rows : List Equation) (rest rest′ : List ℕ) (o : Result (List Equation)) (numbers words : List ℕ) : Type 0 where
@@ -43,6 +45,10 @@ module _ {n m d : ℕ} {rows : List Equation} {rest rest′ : List ℕ} {o : Res
   pub refused-is : {r : Reduction} → ReducedBy n m d rows rest rest′ o numbers words r → r ≡ reduction.Unsolvable → o ≡ unsolvable
   refused-is (refused e k) q = e
   refused-is (reduced rows′ e w) q = let z : _≡_ {A = ℕ} 0 1 = cc in absurd (omega arith)
+
+  pub refused-held : {r : Reduction} → ReducedBy n m d rows rest rest′ o numbers words r → r ≡ reduction.Unsolvable → Held n m numbers words
+  refused-held (refused e k) q = k .held
+  refused-held (reduced rows′ e w) q = let z : _≡_ {A = ℕ} 0 1 = cc in absurd (omega arith)
 
   pub reduced-is : {r : Reduction} → ReducedBy n m d rows rest rest′ o numbers words r → r ≡ reduction.Reduced → ReducedTo n m d rows rest rest′ o numbers words
   reduced-is (refused e k) q = let z : _≡_ {A = ℕ} 0 1 = cc in absurd (omega arith)
@@ -113,7 +119,19 @@ module _ {n m : ℕ} {layout : Layout} {sys : List Equation} {s : State} {stand 
         rw (u, done-count st) at c
 
     pub clear-refused : r ≡ reduction.Unsolvable → Going n m layout sys s (denseRow s) step.Unsolvable numbers′ words′
-    clear-refused e = rw (row-refused s (refused-is came e)) tt
+    clear-refused e =
+        let h = refused-held came e in
+        let p = places (st .shows .laid) in
+        let l = length-drop (layout .dense) numbers′ in
+        let r = h .numbers-room in
+        let f = clear-fits in
+        rw (row-refused s (refused-is came e)) (record {
+          place = p .lengths;
+          before = omega arith;
+          inside = omega arith;
+          equations = padded-agree (layout .dense) numbers′ (laid-tidy (st .shows .laid) .equations) (q .numbers-kept) (omega arith) (omega arith);
+          dense = drawn-padded h;
+        })
 
     pub clear-more : r ≡ reduction.Reduced → Going n m layout sys s (denseRow s) (step.More (record {
       variables = stand .variables;
@@ -139,7 +157,7 @@ module _ {n m : ℕ} {layout : Layout} {sys : List Equation} {s : State} {stand 
         rw (in-use m rows) at (each-take (λ r. Rising 0 n (r .vars)) (filled m rows) (length rows) (dr′ .rising)) in
         let low : length rows ≤ m = omega arith in
         let pic : drop (layout .dense) numbers′ ≡ densePart n m rows =
-        dr′ .numbers-are ∙ append-nil (picture n (filled m rows)) ∙ sym (part-is-picture n m rows rr low) in
+        dr′ .numbers-are ∙ append-nil (picture n (filled m rows)) ∙ sym (part-is-picture n m rows (rising-narrows n rows rr) low) in
         let wic : drop m words′ ≡ padded m (map (λ r. r .c) rows) =
         dr′ .words-are ∙ append-nil (map constantOf (filled m rows)) ∙ sym (words-are-constants m rows) in
         let p = places (st .shows .laid) in

@@ -4,11 +4,11 @@ use mathlib.Core.List.{List, [], _∷_, _++_}
 use Prim.Native.Nat.{ℕ, _+_, _-_, _≤_, _<_}
 use native.Mathlib.Nat.{sub-zero}
 use native.Mathlib.Omega.{arith}
-use lib.ListN.{length, take, drop, replicate, length-append, length-drop}
-use lib.Seq.{length-take-le, drop-at}
+use lib.ListN.{length, take, drop, replicate, length-replicate}
+use lib.Seq.{length-take-le}
 use Rattle.gf2.specs.Result.{Result, unsolvable, ok}
 use Rattle.areas.specs.Stretch.{put, cleared}
-use Rattle.areas.proofs.Stretch.{cleared-is-put, cleared-same}
+use Rattle.areas.proofs.Stretch.{put-all}
 use Rattle.answers.specs.Calls.{ran}
 use Rattle.answers.specs.declared.Answer.{Answer}
 use Rattle.answers.specs.declared.Answer.the-variants as answer
@@ -17,15 +17,14 @@ use Rattle.lazy_pops.specs.declared.Step.{Step}
 use Rattle.lazy_pops.specs.declared.Step.the-variants as step
 use Rattle.lazy_units.specs.Units.{Over}
 
--- the part that was lent and what lies past it have the length of the whole
-pub lent-back : (r : ℕ) (b l : List ℕ) → r ≤ length l → length b ≡ length (take r l) → length (b ++ drop r l) ≡ length l
-lent-back r b l h e = let t = length-take-le r l h in rw (length-append b (drop r l), length-drop r l) (omega arith)
+-- the part that was lent is zero, and what lies past it is as it was
+pub room-zero : (r kn : ℕ) (b l : List ℕ) → r ≡ kn → kn ≤ length l → b ≡ replicate (length (take r l)) 0 → b ++ drop r l ≡ cleared kn l
+unfolding cleared
+room-zero r kn b l e h q = let t = length-take-le r l (omega arith) in rw (q, t, e)
 
-pub room-zero : (r kn : ℕ) (b l l′ : List ℕ) → r ≡ kn → length b ≡ length (take r l) → kn ≤ length l → l′ ≡ put 0 (replicate (r - 0) 0) (b ++ drop r l) → l′ ≡ cleared kn l
-room-zero r kn b l l′ e q h z =
-    let t = length-take-le r l (omega arith) in
-    let d : drop kn (b ++ drop r l) ≡ drop kn l = rw (← e) (drop-at b (drop r l) r (omega arith)) in
-    z ∙ ap (λ (k : ℕ). put 0 (replicate k 0) (b ++ drop r l)) (sub-zero r ∙ e) ∙ sym (cleared-is-put kn (b ++ drop r l)) ∙ cleared-same kn (b ++ drop r l) l d
+-- the words, from their first to their last
+pub words-zero : (k size : ℕ) (l l′ : List ℕ) → l′ ≡ put 0 (replicate (k - 0) 0) l → k ≡ length l → length l ≡ size → l′ ≡ replicate size 0
+words-zero k size l l′ e h g = e ∙ rw (sub-zero k, h) (put-all (replicate (length l) 0) l (length-replicate (length l) 0)) ∙ ap (λ (j : ℕ). replicate j 0) g
 
 module _ (kn kw : ℕ) (solution solution′ numbers words numbers′ words′ : List ℕ) (zn : numbers′ ≡ cleared kn numbers) (zw : words′ ≡ cleared kw words) where
   abbrev Leaves : Answer → Result (List ℕ) → Type 0

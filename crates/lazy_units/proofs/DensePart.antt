@@ -33,12 +33,12 @@ rising-narrows n [] e i h = absurd (omega arith)
 rising-narrows n (r ∷ rows) e zero h = rising-narrow n (r .vars) (e .0)
 rising-narrows n (r ∷ rows) e (suc i) h = rising-narrows n rows (e .1) i (omega arith)
 
-pub part-is-picture : (n m : ℕ) (dense : List Equation) → Each (λ r. Rising 0 n (r .vars)) dense → length dense ≤ m → densePart n m dense ≡ picture n (filled m dense)
+pub part-is-picture : (n m : ℕ) (dense : List Equation) → Narrow n (map varsOf dense) → length dense ≤ m → densePart n m dense ≡ picture n (filled m dense)
 unfolding picture padded
 part-is-picture n m dense e h =
     let k : ℕ = m - length dense in
     let vs : List (List ℕ) = map varsOf dense in
-    let l : length (laid n vs) ≡ length dense * n = length-laid n vs (rising-narrows n dense e) ∙ ap (λ (x : ℕ). x * n) (length-map dense varsOf) in
+    let l : length (laid n vs) ≡ length dense * n = length-laid n vs e ∙ ap (λ (x : ℕ). x * n) (length-map dense varsOf) in
     let q : m ≡ length dense + k = omega arith in
     let p : m * n ≡ length dense * n + k * n = ap (λ (x : ℕ). x * n) q ∙ add-mul (length dense) k n in
     let z : m * n - length (laid n vs) ≡ k * n = omega arith in
@@ -53,6 +53,19 @@ part-is-picture n m dense e h =
       blanks lengthOf k,
       ll,
     )
+
+blank-narrow : (n k : ℕ) → Narrow n (map varsOf (replicate k blank))
+blank-narrow n zero i h = absurd (omega arith)
+blank-narrow n (suc k) zero h = omega arith
+blank-narrow n (suc k) (suc i) h = blank-narrow n k i (omega arith)
+
+pub filled-narrow : (n m : ℕ) (dense : List Equation) → Narrow n (map varsOf dense) → Narrow n (map varsOf (filled m dense))
+filled-narrow n m dense f = go dense f
+  where
+    go : (rows : List Equation) → Narrow n (map varsOf rows) → Narrow n (map varsOf (rows ++ replicate (m - length dense) blank))
+    go [] f i h = blank-narrow n (m - length dense) i h
+    go (r ∷ rows) f zero h = f zero (omega arith)
+    go (r ∷ rows) f (suc i) h = go rows (λ j k. f (suc j) (omega arith)) i (omega arith)
 
 pub words-are-constants : (m : ℕ) (dense : List Equation) → padded m (map (λ r. r .c) dense) ≡ map constantOf (filled m dense)
 unfolding padded
@@ -79,7 +92,7 @@ dense-drawn n m dense e h =
     let size = part-long n m dense e h in
     let c = length-map dense (λ (r : Equation). r .c) in
     record {
-      numbers-are = part-is-picture n m dense e h ∙ sym (append-nil (picture n (filled m dense)));
+      numbers-are = part-is-picture n m dense (rising-narrows n dense e) h ∙ sym (append-nil (picture n (filled m dense)));
       words-are = words-are-constants m dense ∙ sym (append-nil (map constantOf (filled m dense)));
       rising = each-append (λ r. Rising 0 n (r .vars)) dense (replicate (m - length dense) blank) e (each-blank n (m - length dense));
       count = length-filled m dense h;

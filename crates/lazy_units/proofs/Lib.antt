@@ -1,6 +1,8 @@
 pub mod Tails
 pub mod DensePart
 pub mod Ends
+pub mod Tidying
+pub mod Swept
 pub mod ClearRow
 pub mod FillTurns
 pub mod LastUnit

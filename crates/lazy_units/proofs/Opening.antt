@@ -58,7 +58,7 @@ module _ {n m : ℕ} {starts vars constants : List ℕ} (f : Fits n m starts var
   unfolding start
   start-left = let v = start-variables n sys in let z : left (start n sys) ≤ length sys + n + (length sys + 0) = omega arith in omega arith
 
-  pub built : {stand : Stand} {layout : Layout} {numbers words solution : List ℕ} (solution′ : List ℕ) (r : Step) → UnitAt n m layout sys (start n sys) stand numbers words solution
-      → Ran n m layout stand numbers words solution solution′ r → Over (lazyElimination n sys) r solution solution′
+  pub built : {stand : Stand} {layout : Layout} {numbers words solution : List ℕ} (solution′ numbers′ : List ℕ) (r : Step) → UnitAt n m layout sys (start n sys) stand numbers words solution
+      → Ran n m layout stand numbers words solution solution′ numbers′ r → Over (lazyElimination n sys) r solution solution′
   unfolding lazyElimination wholeRun
-  built solution′ r a q = q sys (start n sys) a (enough n sys) start-left
+  built solution′ numbers′ r a q = q sys (start n sys) a .1 (enough n sys) start-left

@@ -13,6 +13,7 @@ use Rattle.lazy_setup.specs.declared.Stand.{Stand}
 use Rattle.lazy_setup.specs.Layout.{standOf}
 use Rattle.lazy_pops.specs.declared.Step.{Step}
 use Rattle.lazy_pops.specs.declared.Step.the-variants as step
+use Rattle.lazy_units.specs.Tidy.{Tidy}
 use Rattle.lazy_units.specs.Units.{Stands, left, Gone, Over}
 use Rattle.lazy_units.specs.Ending.{UnitAt}
 use Rattle.lazy_units.specs.Running.{leftOf}
@@ -96,11 +97,11 @@ module _ {n m : ℕ} {layout : Layout} {sys : List Equation} {s : State} {stand 
       refused : (r : Step) → ((x : Stand) → r ≡ step.More x → ⊥) → Gone n m layout sys (i .s′) (ended unsolvable) r solution solution″ numbers″ words″ → Over unsolvable r solution₀ solution″
       refused (step.More x) other g = g
       refused step.Solved other g = g
-      refused step.Unsolvable other g = g ∙ i .same
+      refused step.Unsolvable other g = g .1 ∙ i .same
 
       solved : (y : List ℕ) (r : Step) → ((x : Stand) → r ≡ step.More x → ⊥) → Gone n m layout sys (i .s′) (ended (ok y)) r solution solution″ numbers″ words″ → Over (ok y) r solution₀ solution″
       solved y (step.More x) other g = g
-      solved y step.Solved other g = g
+      solved y step.Solved other g = g .1
       solved y step.Unsolvable other g = g
 
       going : (s″ : State) (r : Step) → ((x : Stand) → r ≡ step.More x → ⊥) → Gone n m layout sys (i .s′) (more s″) r solution solution″ numbers″ words″ → ⊥
@@ -114,16 +115,27 @@ module _ {n m : ℕ} {layout : Layout} {sys : List Equation} {s : State} {stand 
       by (ended unsolvable) g f = subst (λ (x : Result (List ℕ)). Over x r solution₀ solution″) (sym (ends unsolvable f)) (refused r other g)
       by (ended (ok y)) g f = subst (λ (x : Result (List ℕ)). Over x r solution₀ solution″) (sym (ends (ok y) f)) (solved y r other g)
 
+  -- the rows that a last unit leaves
+  tidy : (b : Build) (r : Step) (solution″ numbers″ words″ : List ℕ) → Gone n m layout sys (i .s′) b r solution solution″ numbers″ words″ → ((x : Stand) → r ≡ step.More x → ⊥)
+      → Tidy n m layout numbers″
+  tidy b (step.More x) solution″ numbers″ words″ g other = absurd (other x refl)
+  tidy (more s″) step.Solved solution″ numbers″ words″ g other = absurd g
+  tidy (more s″) step.Unsolvable solution″ numbers″ words″ g other = absurd g
+  tidy (ended unsolvable) step.Solved solution″ numbers″ words″ g other = absurd g
+  tidy (ended unsolvable) step.Unsolvable solution″ numbers″ words″ g other = g .0
+  tidy (ended (ok x)) step.Solved solution″ numbers″ words″ g other = g .0
+  tidy (ended (ok x)) step.Unsolvable solution″ numbers″ words″ g other = absurd g
+
+  ended-so : (e : Step) {r : Step} (solution″ numbers″ words″ : List ℕ) → Gone n m layout sys (i .s′) (unit n sys (i .s′)) r solution solution″ numbers″ words″ → r ≡ e
+      → ((x : Stand) → e ≡ step.More x → ⊥) → Tidy n m layout numbers″ × ((k : ℕ) → left s < k → Over (answerOf (after k n sys (more s))) e solution₀ solution″)
+  ended-so e solution″ numbers″ words″ g q other =
+      let h = subst (λ (x : Step). Gone n m layout sys (i .s′) (unit n sys (i .s′)) x solution solution″ numbers″ words″) q g in
+      (tidy (unit n sys (i .s′)) e solution″ numbers″ words″ h other, over (unit n sys (i .s′)) refl e solution″ numbers″ words″ h other)
+
   pub run-solved : {r : Step} (solution″ numbers″ words″ : List ℕ) → Gone n m layout sys (i .s′) (unit n sys (i .s′)) r solution solution″ numbers″ words″ → r ≡ step.Solved
-      → (k : ℕ) → left s < k → Over (answerOf (after k n sys (more s))) step.Solved solution₀ solution″
-  run-solved {r} solution″ numbers″ words″ g e =
-      over (unit n sys (i .s′)) refl step.Solved solution″ numbers″ words″
-      (subst (λ (x : Step). Gone n m layout sys (i .s′) (unit n sys (i .s′)) x solution solution″ numbers″ words″) e g)
-      (λ x q. let z : _≡_ {A = ℕ} 0 1 = cc in omega arith)
+      → Tidy n m layout numbers″ × ((k : ℕ) → left s < k → Over (answerOf (after k n sys (more s))) step.Solved solution₀ solution″)
+  run-solved solution″ numbers″ words″ g e = ended-so step.Solved solution″ numbers″ words″ g e (λ x q. let z : _≡_ {A = ℕ} 0 1 = cc in omega arith)
 
   pub run-refused : {r : Step} (solution″ numbers″ words″ : List ℕ) → Gone n m layout sys (i .s′) (unit n sys (i .s′)) r solution solution″ numbers″ words″ → r ≡ step.Unsolvable
-      → (k : ℕ) → left s < k → Over (answerOf (after k n sys (more s))) step.Unsolvable solution₀ solution″
-  run-refused {r} solution″ numbers″ words″ g e =
-      over (unit n sys (i .s′)) refl step.Unsolvable solution″ numbers″ words″
-      (subst (λ (x : Step). Gone n m layout sys (i .s′) (unit n sys (i .s′)) x solution solution″ numbers″ words″) e g)
-      (λ x q. let z : _≡_ {A = ℕ} 0 1 = cc in omega arith)
+      → Tidy n m layout numbers″ × ((k : ℕ) → left s < k → Over (answerOf (after k n sys (more s))) step.Unsolvable solution₀ solution″)
+  run-refused solution″ numbers″ words″ g e = ended-so step.Unsolvable solution″ numbers″ words″ g e (λ x q. let z : _≡_ {A = ℕ} 0 1 = cc in omega arith)

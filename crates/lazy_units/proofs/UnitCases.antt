@@ -25,8 +25,10 @@ use Rattle.lazy_setup.specs.Layout.{standOf}
 use Rattle.lazy_pops.specs.declared.Step.{Step}
 use Rattle.lazy_pops.specs.declared.Step.the-variants as step
 use Rattle.lazy_pops.specs.Pops as pops
+use Rattle.lazy_units.specs.Tidy.{Tidy}
 use Rattle.lazy_units.specs.Units.{Fit, Stands, left, Gone, Going, Over, ClearAt}
 use Rattle.lazy_units.specs.Ending.{UnitAt}
+use Rattle.lazy_units.proofs.Tidying.{laid-tidy}
 use Rattle.lazy_units.proofs.ClearRow.{dense-count, done-count, remaining-count, dense-low, words-long}
 
 -- ---- the definition
@@ -99,16 +101,16 @@ module _ (n m : ℕ) (layout : Layout) (sys : List Equation) (s : State) (number
   going-gone solution solution′ (ok s′) step.Unsolvable g e = g
   going-gone solution solution′ unsolvable (step.More stand) g e = g
   going-gone solution solution′ unsolvable step.Solved g e = g
-  going-gone solution solution′ unsolvable step.Unsolvable g e = e
+  going-gone solution solution′ unsolvable step.Unsolvable g e = (g, e)
 
-  over-gone : (solution solution′ : List ℕ) (x : Result (List ℕ)) (r : Step)
+  over-gone : Tidy n m layout numbers → (solution solution′ : List ℕ) (x : Result (List ℕ)) (r : Step)
       → Over x r solution solution′ → Gone n m layout sys s (ended x) r solution solution′ numbers words
-  over-gone solution solution′ unsolvable (step.More stand) g = g
-  over-gone solution solution′ unsolvable step.Solved g = g
-  over-gone solution solution′ unsolvable step.Unsolvable g = g
-  over-gone solution solution′ (ok x) (step.More stand) g = g
-  over-gone solution solution′ (ok x) step.Solved g = g
-  over-gone solution solution′ (ok x) step.Unsolvable g = g
+  over-gone t solution solution′ unsolvable (step.More stand) g = g
+  over-gone t solution solution′ unsolvable step.Solved g = g
+  over-gone t solution solution′ unsolvable step.Unsolvable g = (t, g)
+  over-gone t solution solution′ (ok x) (step.More stand) g = g
+  over-gone t solution solution′ (ok x) step.Solved g = (t, g)
+  over-gone t solution solution′ (ok x) step.Unsolvable g = g
 
   pop-going : Lent n sys → Inv n sys s → n ≤ maxVariables → (x : Result State) (r : Step)
       → laws.After (laws.Popped n sys s) (laws.Clash (s .rows)) x → pops.After n m layout sys x r numbers words → Going n m layout sys s x r numbers words
@@ -120,7 +122,7 @@ module _ (n m : ℕ) (layout : Layout) (sys : List Equation) (s : State) (number
   pop-going lent i small (ok s′) step.Unsolvable p a = a
   pop-going lent i small unsolvable (step.More stand) p a = a
   pop-going lent i small unsolvable step.Solved p a = a
-  pop-going lent i small unsolvable step.Unsolvable p a = a
+  pop-going lent i small unsolvable step.Unsolvable p a = laid-tidy (a .laid)
 
 -- ---- on the areas
 
@@ -165,4 +167,4 @@ module _ {n m : ℕ} {layout : Layout} {sys : List Equation} {s : State} {stand 
   pub last-gone : (r : Step) (solution′ : List ℕ) → stand .remaining ≡ 0 → stand .dense ≤ stand .done + 1 → Over (lastUnit n s) r solution solution′
       → Gone n m layout sys s (unit n sys s) r solution solution′ numbers words
   last-gone r solution′ z h q =
-      rw (unit-last n sys s (sym remaining-is ∙ z) (omega (arith, dense-count (a .stands), done-count (a .stands)))) (over-gone n m layout sys s numbers words solution solution′ (lastUnit n s) r q)
+      rw (unit-last n sys s (sym remaining-is ∙ z) (omega (arith, dense-count (a .stands), done-count (a .stands)))) (over-gone n m layout sys s numbers words (laid-tidy (a .stands .shows .laid)) solution solution′ (lastUnit n s) r q)

@@ -1,3 +1,4 @@
+pub mod Tidy
 pub mod Units
 pub mod Clearing
 pub mod Ending

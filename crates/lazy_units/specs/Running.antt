@@ -8,6 +8,7 @@ use Rattle.lazy.specs.Lazy.{State, more, after, answerOf}
 use Rattle.lazy_setup.specs.declared.Layout.{Layout}
 use Rattle.lazy_setup.specs.declared.Stand.{Stand}
 use Rattle.lazy_pops.specs.declared.Step.{Step}
+use Rattle.lazy_units.specs.Tidy.{Tidy}
 use Rattle.lazy_units.specs.Units.{left, Over}
 use Rattle.lazy_units.specs.Ending.{UnitAt}
 
@@ -15,8 +16,8 @@ use Rattle.lazy_units.specs.Ending.{UnitAt}
 abbrev pub leftOf : Stand → ℕ
 leftOf stand = stand .remaining + stand .variables + (stand .remaining + (stand .dense - stand .done))
 
--- the build ended as the rules end it
-abbrev pub Ran : ℕ → ℕ → Layout → Stand → List ℕ → List ℕ → List ℕ → List ℕ → Step → Type 0
-Ran n m layout stand numbers words solution solution′ r =
-    (sys : List Equation) (s : State) → UnitAt n m layout sys s stand numbers words solution → (k : ℕ) → left s < k
-    → Over (answerOf (after k n sys (more s))) r solution solution′
+-- the build ended as the rules end it, with its rows padded
+abbrev pub Ran : ℕ → ℕ → Layout → Stand → List ℕ → List ℕ → List ℕ → List ℕ → List ℕ → Step → Type 0
+Ran n m layout stand numbers words solution solution′ numbers′ r =
+    (sys : List Equation) (s : State) → UnitAt n m layout sys s stand numbers words solution
+    → Tidy n m layout numbers′ × ((k : ℕ) → left s < k → Over (answerOf (after k n sys (more s))) r solution solution′)

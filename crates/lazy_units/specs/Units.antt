@@ -14,6 +14,7 @@ use Rattle.lazy_setup.specs.Area.{wordsOf}
 use Rattle.lazy_pops.specs.declared.Step.{Step}
 use Rattle.lazy_pops.specs.declared.Step.the-variants as step
 use Rattle.lazy_pops.specs.Pops.{Shows}
+use Rattle.lazy_units.specs.Tidy.{Tidy}
 
 -- what a unit relies on in the state alone
 pub record Fit (n : ℕ) (sys : List Equation) (s : State) : Type 0 where
@@ -50,9 +51,9 @@ Gone n m layout sys s (more s′) step.Solved solution solution′ numbers words
 Gone n m layout sys s (more s′) step.Unsolvable solution solution′ numbers words = ⊥
 Gone n m layout sys s (ended unsolvable) (step.More stand) solution solution′ numbers words = ⊥
 Gone n m layout sys s (ended unsolvable) step.Solved solution solution′ numbers words = ⊥
-Gone n m layout sys s (ended unsolvable) step.Unsolvable solution solution′ numbers words = solution′ ≡ solution
+Gone n m layout sys s (ended unsolvable) step.Unsolvable solution solution′ numbers words = Tidy n m layout numbers × (solution′ ≡ solution)
 Gone n m layout sys s (ended (ok x)) (step.More stand) solution solution′ numbers words = ⊥
-Gone n m layout sys s (ended (ok x)) step.Solved solution solution′ numbers words = solution′ ≡ x
+Gone n m layout sys s (ended (ok x)) step.Solved solution solution′ numbers words = Tidy n m layout numbers × (solution′ ≡ x)
 Gone n m layout sys s (ended (ok x)) step.Unsolvable solution solution′ numbers words = ⊥
 
 -- how the build ends
@@ -71,7 +72,7 @@ Going n m layout sys s (ok s′) step.Solved numbers words = ⊥
 Going n m layout sys s (ok s′) step.Unsolvable numbers words = ⊥
 Going n m layout sys s unsolvable (step.More stand) numbers words = ⊥
 Going n m layout sys s unsolvable step.Solved numbers words = ⊥
-Going n m layout sys s unsolvable step.Unsolvable numbers words = Unit {0}
+Going n m layout sys s unsolvable step.Unsolvable numbers words = Tidy n m layout numbers
 
 -- the dense part has a row to clear
 pub record ClearAt (n m : ℕ) (layout : Layout) (sys : List Equation) (s : State) (stand : Stand) (numbers words : List ℕ) : Type 0 where

@@ -4,6 +4,7 @@ use answers::Rules;
 
 mod clearing;
 mod filling;
+mod sweeping;
 pub mod units;
 mod whole;
 

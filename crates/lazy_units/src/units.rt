@@ -44,7 +44,7 @@ pub fn run_units(
     solution: &mut [u64],
 ) -> Step
     requires { ⌜ UnitReady n m layout stand (now numbers) (now words) (now solution) ⌝ }
-    ensures { λ r. ⌜ Ran n m layout stand (now (numbers .entry)) (now (words .entry)) (now (solution .entry)) (now (solution .exit)) r ⌝ }
+    ensures { λ r. ⌜ Ran n m layout stand (now (numbers .entry)) (now (words .entry)) (now (solution .entry)) (now (solution .exit)) (now (numbers .exit)) r ⌝ }
 {
     let mut at = stand;
     loop {

@@ -1,4 +1,5 @@
 // The whole run on lent areas: set-up, units, zeros.
+use crate::sweeping::sweep;
 use crate::units::run_units;
 use answers::Answer;
 use lazy_pops::Step;
@@ -6,13 +7,13 @@ use lazy_setup::Layout;
 use lazy_setup::setup;
 ghost use mathlib.Core.Path.{_≡_};
 ghost use Prim.Native.Nat.{_≤_};
-ghost use lib.ListN.{length};
+ghost use lib.ListN.{length, replicate};
 ghost use Rattle.answers.specs.Sizes.{lazyNumbers, lazyWords};
 ghost use Rattle.system.specs.Fits.{Fits};
 ghost use Rattle.lazy_units.specs.LazyCall.{lazyRan, lazyAnswer};
 ghost use Rattle.lazy_units.specs.Units.{Over};
 
-// The build in areas that are just the room.
+// The build in areas that are just the room: they are zero afterwards.
 fn build(
     n: usize,
     m: usize,
@@ -25,10 +26,15 @@ fn build(
 ) -> Step
     requires { ⌜ Fits n m (now starts) (now vars) (now constants) × (length (now solution) ≡ n) × (length (now numbers) ≡ lazyNumbers n m (length (now vars))) × (length (now words) ≡ lazyWords m) ⌝ }
     ensures { λ r. ⌜ Over (lazyAnswer n m (now (starts .entry)) (now (vars .entry)) (now (constants .entry))) r (now (solution .entry)) (now (solution .exit)) ⌝ }
+    ensures { λ _. ⌜ now (numbers .exit) ≡ replicate (length (now (numbers .entry))) 0 ⌝ }
+    ensures { λ _. ⌜ now (words .exit) ≡ replicate (length (now (words .entry))) 0 ⌝ }
 {
     let stand = setup(n, m, starts, vars, constants, numbers, words);
     let layout = Layout::of(n, m, vars.len());
-    run_units(numbers, words, layout, n, m, stand, solution)
+    let end = run_units(numbers, words, layout, n, m, stand, solution);
+    sweep(numbers, layout, n, m);
+    areas::zero::zero_words(words, 0, words.len());
+    end
 }
 
 // The run of a call that is not refused: the rooms are zero afterwards.
@@ -60,8 +66,6 @@ pub fn run(
         &mut numbers[..kn],
         &mut words[..kw],
     );
-    areas::zero::zero_numbers(numbers, 0, kn);
-    areas::zero::zero_words(words, 0, kw);
     match end {
         Step::Solved => Answer::Solved,
         Step::Unsolvable => Answer::Unsolvable,

@@ -39,10 +39,6 @@ rows-narrow : (n : ℕ) (rows : List Equation) → Each (λ e. Rising 0 n (e .va
 rows-narrow n rows r i h =
     rw (vars-at rows i) (rising-narrow n (rowAt rows i .vars) (each-at (λ e. Rising 0 n (e .vars)) rows (eqn [] 0) i (omega (arith, length-map rows varsOf)) r))
 
-lengths-twice : (rows : List Equation) → map (λ (vs : List ℕ). length vs) (map varsOf rows) ≡ map lengthOf rows
-lengths-twice [] = refl
-lengths-twice (e ∷ rows) = ap (λ (l : List ℕ). length (e .vars) ∷ l) (lengths-twice rows)
-
 length-tab : (f : ℕ → Equation) (i k : ℕ) → length (tab f i k) ≡ k
 length-tab f i zero = refl
 length-tab f i (suc k) = ap suc (length-tab f (suc i) k)
@@ -205,9 +201,7 @@ module _ {n m : ℕ} {rows : List Equation} {rest rest′ numbers words : List �
 
   -- each row lies padded, its length behind the scratch row
   pub drawn-padded : PaddedRows 0 (m * n + n) n m numbers
-  drawn-padded =
-      let p = rows-padded n (map varsOf rows) (replicate n 0) rest narrow (as-parts ∙ rw (sym (lengths-twice rows)) (simp append-assoc)) in
-      rw (many, length-replicate {A = ℕ} n 0) at p
+  drawn-padded = rw (d .count, length-replicate {A = ℕ} n 0) at (rows-padded n rows (replicate n 0) rest narrow (as-parts ∙ simp append-assoc))
 
   -- what a call says of the rows that its areas held, said of these rows
   pub carried : (P : List Equation → List ℕ → List ℕ → Type 0) → P (rowsOf n m numbers words) (drop (sparseNumbers n m) numbers) (drop (sparseWords m) words) → P rows rest rest′

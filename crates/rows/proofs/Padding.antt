@@ -12,35 +12,41 @@ use Rattle.areas.proofs.Behind.{put-behind}
 use Rattle.areas.proofs.Offsets.{row-before, row-next}
 use Rattle.areas.proofs.Rows.{padded-nil, put-padded, length-laid, stretch-laid, stretch-row-all}
 use Rattle.areas.proofs.Stretch.{length-stretch, length-put, put-none, stretch-put-after, getD-put-after, stretch-agree, getD-agree}
+use Rattle.gf2.specs.Equation.{Equation, eqn}
 use Rattle.rows.specs.Padding.{PaddedRows}
+use Rattle.rows.specs.Picture.{varsOf, lengthOf}
 
 -- ---- where rows lie padded
 
 -- rows, something between, their lengths
-pub rows-padded : (n : ℕ) (rows : List (List ℕ)) (mid rest : List ℕ) {numbers : List ℕ} → Narrow n rows
-    → numbers ≡ laid n rows ++ (mid ++ (map (λ vs. length vs) rows ++ rest)) → PaddedRows 0 (length rows * n + length mid) n (length rows) numbers
+pub rows-padded : (n : ℕ) (rows : List Equation) (mid rest : List ℕ) {numbers : List ℕ} → Narrow n (map varsOf rows)
+    → numbers ≡ laid n (map varsOf rows) ++ (mid ++ (map lengthOf rows ++ rest)) → PaddedRows 0 (length rows * n + length mid) n (length rows) numbers
 rows-padded n rows mid rest {numbers} f e =
     record {
       behind = omega arith;
       inside = rw (e, length-append, length-append, length-append, length-map, l) (omega arith);
-      short = λ i h. rw (size i h) (f i h);
+      short = λ i h. rw (size i h) (f i (many h));
       zeros = λ i h. rw (zero-add (i * n), size i h) (whole i h ∙ ap (padded n) (sym (part i h)));
     }
   where
-    l : length (laid n rows) ≡ length rows * n
-    l = length-laid n rows f
+    many : {i : ℕ} → i < length rows → i < length (map varsOf rows)
+    many h = rw length-map h
 
-    size : (i : ℕ) → i < length rows → getD numbers (length rows * n + length mid + i) 0 ≡ length (getD rows i [])
+    l : length (laid n (map varsOf rows)) ≡ length rows * n
+    l = length-laid n (map varsOf rows) f ∙ ap (λ (k : ℕ). k * n) (length-map rows varsOf)
+
+    size : (i : ℕ) → i < length rows → getD numbers (length rows * n + length mid + i) 0 ≡ length (getD (map varsOf rows) i [])
     size i h =
         rw (e, ← l, add-assoc)
-        (getD-append-add (laid n rows) (mid ++ (map (λ vs. length vs) rows ++ rest)) (length mid + i) 0 ∙ getD-append-add mid (map (λ vs. length vs) rows ++ rest) i 0
-        ∙ List·getD-append (map (λ vs. length vs) rows) rest 0 i (rw length-map h) ∙ List·getD-map (λ (vs : List ℕ). length vs) rows i [])
+        (getD-append-add (laid n (map varsOf rows)) (mid ++ (map lengthOf rows ++ rest)) (length mid + i) 0 ∙ getD-append-add mid (map lengthOf rows ++ rest) i 0
+        ∙ List·getD-append (map lengthOf rows) rest 0 i (rw length-map h) ∙ List·getD-map lengthOf rows i (eqn [] 0)
+        ∙ ap (λ (vs : List ℕ). length vs) (sym (List·getD-map varsOf rows i (eqn [] 0))))
 
-    whole : (i : ℕ) → i < length rows → stretch (i * n) n numbers ≡ padded n (getD rows i [])
-    whole i h = rw e (stretch-laid n i rows (mid ++ (map (λ vs. length vs) rows ++ rest)) f h)
+    whole : (i : ℕ) → i < length rows → stretch (i * n) n numbers ≡ padded n (getD (map varsOf rows) i [])
+    whole i h = rw e (stretch-laid n i (map varsOf rows) (mid ++ (map lengthOf rows ++ rest)) f (many h))
 
-    part : (i : ℕ) → i < length rows → stretch (i * n) (length (getD rows i [])) numbers ≡ getD rows i []
-    part i h = rw e (stretch-row-all n i rows (mid ++ (map (λ vs. length vs) rows ++ rest)) f h)
+    part : (i : ℕ) → i < length rows → stretch (i * n) (length (getD (map varsOf rows) i [])) numbers ≡ getD (map varsOf rows) i []
+    part i h = rw e (stretch-row-all n i (map varsOf rows) (mid ++ (map lengthOf rows ++ rest)) f (many h))
 
 -- at the end of an area
 pub padded-past : (b lengths n m : ℕ) (numbers : List ℕ) → b ≤ length numbers → PaddedRows 0 lengths n m (drop b numbers) → PaddedRows b (b + lengths) n m numbers

@@ -32,33 +32,21 @@ build-requires c κs =
 
 returns : tie.Need-returns
 returns c =
-    let p = c .before .before .before .before .before .before .before .before .before .before .before .before .before .before .before .before .before .before .before .before .before .before .before .before .before .before .before .before .pre in
-    let a = c .before .before .before .before .before .before .before .before .before .before .before .before .before .before .before .before .before .before .before .before .before .before .before .before .before .before .before .before .args in
-    let l = c .before .before .before .before .before .before .before .before .before .before .before .before .before .before .before .before .build .last in
-    end-solved _ _ _ (l .1 .1 .1 .1 .1 .0) _ _ _ _
-    (room-zero _ _ (l .1 .1 .1 .1 .1 .1 .0) (a .numbers .now) _ (c .before .before .before .before .before .before .before .before .before .before .before .before .before .before .before .before .before .before .before .before .before .lazy-numbers .ensures) (c .before .before .before .before .before .before .before .before .before .before .before .before .before .numbers .given .0) (p .2) (c .before .before .before .before .before .before .before .before .zero-numbers .ensures))
-    (room-zero _ _ (l .1 .1 .1 .1 .1 .1 .1 .0) (a .words .now) _ (c .before .before .before .before .before .before .before .before .before .before .before .before .before .before .before .before .before .before .before .before .lazy-words .ensures) (c .before .before .before .before .before .before .before .before .before .before .before .words .given .0) (p .3) (c .before .before .before .before .zero-words .ensures))
-    (lazyAnswer (a .n) (a .m) (a .starts .now) (a .vars .now) (a .constants .now)) _ (c .before .before .before .before .before .before .before .before .before .before .before .before .before .before .before .before .build .ensures) (c .enum-told .given .1)
+    let p = c .before .before .before .before .before .before .before .before .before .before .before .before .before .before .before .before .before .before .before .before .pre in let a = c .before .before .before .before .before .before .before .before .before .before .before .before .before .before .before .before .before .before .before .before .args in let l = c .before .before .before .before .before .before .before .before .build .last in let e = c .before .before .before .before .before .before .before .before .build .ensures in
+    end-solved _ _ _ (l .1 .1 .1 .1 .1 .0) _ _ _ _ (room-zero _ _ _ (a .numbers .now) (c .before .before .before .before .before .before .before .before .before .before .before .before .before .lazy-numbers .ensures) (p .2) (e .1 .0)) (room-zero _ _ _ (a .words .now) (c .before .before .before .before .before .before .before .before .before .before .before .before .lazy-words .ensures) (p .3) (e .1 .1))
+    (lazyAnswer (a .n) (a .m) (a .starts .now) (a .vars .now) (a .constants .now)) _ (e .0) (c .enum-told .given .1)
 
 returns-2 : tie.Need-returns-2
 returns-2 c =
-    let p = c .before .before .before .before .before .before .before .before .before .before .before .before .before .before .before .before .before .before .before .before .before .before .before .before .before .before .before .before .pre in
-    let a = c .before .before .before .before .before .before .before .before .before .before .before .before .before .before .before .before .before .before .before .before .before .before .before .before .before .before .before .before .args in
-    let l = c .before .before .before .before .before .before .before .before .before .before .before .before .before .before .before .before .build .last in
-    end-refused _ _ _ (l .1 .1 .1 .1 .1 .0) _ _ _ _
-    (room-zero _ _ (l .1 .1 .1 .1 .1 .1 .0) (a .numbers .now) _ (c .before .before .before .before .before .before .before .before .before .before .before .before .before .before .before .before .before .before .before .before .before .lazy-numbers .ensures) (c .before .before .before .before .before .before .before .before .before .before .before .before .before .numbers .given .0) (p .2) (c .before .before .before .before .before .before .before .before .zero-numbers .ensures))
-    (room-zero _ _ (l .1 .1 .1 .1 .1 .1 .1 .0) (a .words .now) _ (c .before .before .before .before .before .before .before .before .before .before .before .before .before .before .before .before .before .before .before .before .lazy-words .ensures) (c .before .before .before .before .before .before .before .before .before .before .before .words .given .0) (p .3) (c .before .before .before .before .zero-words .ensures))
-    (lazyAnswer (a .n) (a .m) (a .starts .now) (a .vars .now) (a .constants .now)) _ (c .before .before .before .before .before .before .before .before .before .before .before .before .before .before .before .before .build .ensures) (c .enum-told2 .given .1)
+    let p = c .before .before .before .before .before .before .before .before .before .before .before .before .before .before .before .before .before .before .before .before .pre in let a = c .before .before .before .before .before .before .before .before .before .before .before .before .before .before .before .before .before .before .before .before .args in let l = c .before .before .before .before .before .before .before .before .build .last in let e = c .before .before .before .before .before .before .before .before .build .ensures in
+    end-refused _ _ _ (l .1 .1 .1 .1 .1 .0) _ _ _ _ (room-zero _ _ _ (a .numbers .now) (c .before .before .before .before .before .before .before .before .before .before .before .before .before .lazy-numbers .ensures) (p .2) (e .1 .0)) (room-zero _ _ _ (a .words .now) (c .before .before .before .before .before .before .before .before .before .before .before .before .lazy-words .ensures) (p .3) (e .1 .1))
+    (lazyAnswer (a .n) (a .m) (a .starts .now) (a .vars .now) (a .constants .now)) _ (e .0) (c .enum-told2 .given .1)
 
 returns-3 : tie.Need-returns-3
 returns-3 c =
-    let p = c .before .before .before .before .before .before .before .before .before .before .before .before .before .before .before .before .before .before .before .before .before .before .before .before .before .before .before .before .pre in
-    let a = c .before .before .before .before .before .before .before .before .before .before .before .before .before .before .before .before .before .before .before .before .before .before .before .before .before .before .before .before .args in
-    let l = c .before .before .before .before .before .before .before .before .before .before .before .before .before .before .before .before .build .last in
-    end-more _ _ _ (l .1 .1 .1 .1 .1 .0) _ _ _ _
-    (room-zero _ _ (l .1 .1 .1 .1 .1 .1 .0) (a .numbers .now) _ (c .before .before .before .before .before .before .before .before .before .before .before .before .before .before .before .before .before .before .before .before .before .lazy-numbers .ensures) (c .before .before .before .before .before .before .before .before .before .before .before .before .before .numbers .given .0) (p .2) (c .before .before .before .before .before .before .before .before .zero-numbers .ensures))
-    (room-zero _ _ (l .1 .1 .1 .1 .1 .1 .1 .0) (a .words .now) _ (c .before .before .before .before .before .before .before .before .before .before .before .before .before .before .before .before .before .before .before .before .lazy-words .ensures) (c .before .before .before .before .before .before .before .before .before .before .before .words .given .0) (p .3) (c .before .before .before .before .zero-words .ensures))
-    (lazyAnswer (a .n) (a .m) (a .starts .now) (a .vars .now) (a .constants .now)) _ _ (c .before .before .before .before .before .before .before .before .before .before .before .before .before .before .before .before .build .ensures) (c .enum-told3 .given .1)
+    let p = c .before .before .before .before .before .before .before .before .before .before .before .before .before .before .before .before .before .before .before .before .pre in let a = c .before .before .before .before .before .before .before .before .before .before .before .before .before .before .before .before .before .before .before .before .args in let l = c .before .before .before .before .before .before .before .before .build .last in let e = c .before .before .before .before .before .before .before .before .build .ensures in
+    end-more _ _ _ (l .1 .1 .1 .1 .1 .0) _ _ _ _ (room-zero _ _ _ (a .numbers .now) (c .before .before .before .before .before .before .before .before .before .before .before .before .before .lazy-numbers .ensures) (p .2) (e .1 .0)) (room-zero _ _ _ (a .words .now) (c .before .before .before .before .before .before .before .before .before .before .before .before .lazy-words .ensures) (p .3) (e .1 .1))
+    (lazyAnswer (a .n) (a .m) (a .starts .now) (a .vars .now) (a .constants .now)) _ _ (e .0) (c .enum-told3 .given .1)
 
 pub run-spec : {M : Type 1} → statement M
 run-spec =
@@ -71,8 +59,6 @@ run-spec =
     slice-relend-prefix-build-2
     slice-aggregate-build-2
     build-requires
-    (λ c κs. search needs)  -- zero-numbers-requires
-    (λ c κs. search needs)  -- zero-words-requires
     (λ c. search needs)  -- enum-told
     (λ c. search needs)  -- enum-told-2
     (λ c. search needs)  -- enum-told-3

@@ -1,8 +1,8 @@
 use Prim.Native.Nat.{_+_}
 use Rattle.lazy_pops.proofs.DensePop.{copy-at, equation-cells, pop-copied, pop-clash, pop-identity}
 use native.Mathlib.Omega.{arith}
-use Rattle.lazy_pops.proofs.dense.pop_dense.Statement.{statement}
-use Rattle.lazy_pops.proofs.dense.pop_dense.Tie as tie
+use Rattle.lazy_pops.proofs.copying.pop_dense.Statement.{statement}
+use Rattle.lazy_pops.proofs.copying.pop_dense.Tie as tie
 
 add-at : tie.Need-add-at
 add-at c = let b = equation-cells (c .before .before .before .pre .at) in omega arith

@@ -2,8 +2,8 @@ use lib.ListN.{length-set}
 use mathlib.Core.Logic.{inl}
 use Rattle.lazy_pops.proofs.DenseWriting.{copy-cells, copy-done}
 use native.Mathlib.Omega.{arith}
-use Rattle.lazy_pops.proofs.dense.copy_dense.Statement.{statement}
-use Rattle.lazy_pops.proofs.dense.copy_dense.Tie as tie
+use Rattle.lazy_pops.proofs.copying.copy_dense.Statement.{statement}
+use Rattle.lazy_pops.proofs.copying.copy_dense.Tie as tie
 
 mul-copy-within-numbers : tie.Need-mul-copy-within-numbers
 mul-copy-within-numbers c = let b = copy-cells (c .before .before .before .pre .at) in omega arith
