@@ -4,7 +4,5 @@ pub mod Scanning
 pub mod Header
 pub mod RoundTrip
 pub mod OneFile
-pub mod LaidRows
 pub mod Loadable
-pub mod Loading
 pub mod Examples

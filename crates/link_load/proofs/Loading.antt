@@ -13,13 +13,13 @@ use Rattle.areas.specs.Stretch.{stretch, put}
 use Rattle.areas.proofs.Stretch.{put-none, put-more, put-put-over, length-put, set-is-put}
 use Rattle.areas.proofs.Behind.{put-behind}
 use Rattle.system.specs.Fits.{listedIn}
 use Rattle.link_form.specs.Bytes.{little, power, field, fields}
 use Rattle.link_form.specs.File.{maxBytes, countBytes, count, rowBytes, row, readRows}
 use Rattle.link_form.proofs.Reading.{power-le}
-use Rattle.link_form.specs.Loading.{startsFrom, startsOf, varsOf, constantsOf}
+use Rattle.link_load.specs.Loading.{startsFrom, startsOf, varsOf, constantsOf}
 use Rattle.link_form.proofs.Scanning.{length-fields, length-row, length-rows, listed-fits}
 use Rattle.link_form.proofs.RoundTrip.{taken}
-use Rattle.link_form.proofs.LaidRows.{length-starts, length-vars, length-constants, starts-snoc, vars-snoc, constants-snoc, listed-snoc, listed-take}
+use Rattle.link_load.proofs.LaidRows.{length-starts, length-vars, length-constants, starts-snoc, vars-snoc, constants-snoc, listed-snoc, listed-take}
 
 -- ---- numbers one after the other
 
