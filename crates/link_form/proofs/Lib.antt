@@ -3,6 +3,7 @@ pub mod Numbers
 pub mod Scanning
 pub mod Header
 pub mod RoundTrip
+pub mod NextRow
 pub mod OneFile
 pub mod Loadable
 pub mod Examples

@@ -1,6 +1,7 @@
 use borrow.Author.Needs.{needs}
 use Prim.Native.Nat.{_-_}
-use Rattle.link_load.proofs.Loading.{Noting, noting-begin, noting-room, noting-turn, noting-end, narrow-fits}
+use Rattle.link_form.proofs.Reading.{narrow-fits}
+use Rattle.link_load.proofs.Loading.{Noting, noting-begin, noting-room, noting-turn, noting-end}
 use Rattle.link_load.proofs.load_numbers.Statement.{statement}
 use Rattle.link_load.proofs.load_numbers.Tie as tie
 
