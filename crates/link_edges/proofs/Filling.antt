@@ -12,7 +12,7 @@ use Rattle.peel_rules.specs.Machine.{noEdge}
 use Rattle.link_form.specs.File.{maxBytes, peelKind, width, headerBytes, row, readRows}
 use Rattle.link_form.specs.Lent.{mostRows, Served, fileRows}
 use Rattle.link_form.proofs.Scanning.{length-rows}
-use Rattle.link_form.proofs.Loading.{Next, next-row}
+use Rattle.link_form.proofs.NextRow.{Next, next-row}
 use Rattle.link_edges.specs.Edges.{edgeOf, edgesOf, tableOf}
 use Rattle.link_edges.proofs.Laws.{table-edges, table-more}
 use Rattle.link_edges.proofs.EdgeRows.{edge-bytes}

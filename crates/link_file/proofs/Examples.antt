@@ -15,7 +15,7 @@ use Rattle.link_form.specs.Bytes.{little, fields}
 use Rattle.link_lines.specs.Decimal.{decimal, digitsBefore}
 use Rattle.link_form.specs.File.{count, rowBytes, row, readRows, headerKept, readFile}
 use Rattle.link_lines.specs.Lines.{ended, headerLine, answerLine, valueLines}
-use Rattle.link_form.specs.Loading.{startsFrom, varsOf, constantsOf}
+use Rattle.link_load.specs.Loading.{startsFrom, varsOf, constantsOf}
 use Rattle.link_rows.specs.RowsCall.{solverOf}
 use Rattle.link_lines.specs.Outcomes.{outcomeText}
 use Rattle.link_file.specs.Text.{served, answered, textOf, linkText}

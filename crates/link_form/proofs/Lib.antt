@@ -3,8 +3,7 @@ pub mod Numbers
 pub mod Scanning
 pub mod Header
 pub mod RoundTrip
+pub mod NextRow
 pub mod OneFile
-pub mod LaidRows
 pub mod Loadable
-pub mod Loading
 pub mod Examples

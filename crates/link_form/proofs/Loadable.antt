@@ -10,8 +10,7 @@ use Rattle.system.specs.Fits.{listedIn}
 use Rattle.link_form.specs.declared.scan.Form.{Form}
 use Rattle.link_form.specs.declared.scan.Form.the-variants.{Malformed, Described}
 use Rattle.link_form.specs.Bytes.{field}
-use Rattle.link_form.specs.File.{Link, maxBytes, headerBytes, width, kindOf, readRows, readFile, formOf}
-use Rattle.link_form.specs.Loading.{rowsIn, rowsAt}
+use Rattle.link_form.specs.File.{Link, maxBytes, headerBytes, width, kindOf, readRows, readFile, formOf, rowsIn, rowsAt}
 use Rattle.link_form.proofs.Scanning.{length-rows}
 use Rattle.link_form.proofs.OneFile.{Read, read-is}
 

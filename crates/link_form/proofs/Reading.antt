@@ -65,3 +65,8 @@ reading-end {bytes} {at} {w} {number} {k} r h =
     let q : at + 0 ≡ at = omega arith in
     let z : w - 0 ≡ w = omega arith in
     (rw (e, q, z) at (r .so-far), rw (e, z) at (r .small))
+
+-- what fits four bytes fits 32 bits
+pub narrow-fits : (w x : ℕ) → w ≤ 4 → x < power w → x < 4294967296
+unfolding power
+narrow-fits w x h s = let l = power-le w 4 h in omega arith

@@ -68,6 +68,14 @@ readRows kind w (suc m) bytes =
       | false ↦ none
     ]
 
+abbrev pub rowsIn : Option (List Equation) → List Equation
+rowsIn none = []
+rowsIn (some rows) = rows
+
+-- the m rows from `at` on; no rows where they are not all there
+abbrev pub rowsAt : ℕ → ℕ → ℕ → ℕ → List ℕ → List Equation
+rowsAt kind w m at bytes = rowsIn (readRows kind w m (drop at bytes))
+
 -- ---- the whole file
 
 -- a number of version 1 has two bytes

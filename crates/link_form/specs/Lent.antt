@@ -8,8 +8,7 @@ use lib.ListN.{length, drop, replicate}
 use lib.Dec.{leb}
 use Rattle.gf2.specs.Equation.{Equation}
 use Rattle.system.specs.Fits.{listedIn}
-use Rattle.link_form.specs.File.{width, headerBytes, maxBytes, readRows}
-use Rattle.link_form.specs.Loading.{rowsAt}
+use Rattle.link_form.specs.File.{width, headerBytes, maxBytes, readRows, rowsAt}
 
 -- ---- the largest n, m and t that are served
 

@@ -1,5 +1,4 @@
 pub mod Bytes
 pub mod File
 pub mod Fitting
-pub mod Loading
 pub mod Lent

@@ -1,7 +1,6 @@
-// The form of a link file: its numbers read, its rows laid out.
+// The form of a link file: its numbers, and whether its bytes are all there.
 mod bytes;
 mod lent;
-mod load;
 mod scan;
 
 pub use bytes::read_number;
@@ -12,7 +11,6 @@ pub use lent::MOST_LISTED;
 pub use lent::MOST_ROWS;
 pub use lent::MOST_VARIABLES;
 pub use lent::sizes_served;
-pub use load::load_rows;
 pub use scan::Form;
 pub use scan::HEADER_BYTES;
 pub use scan::LAZY;
@@ -20,4 +18,6 @@ pub use scan::MAX_BYTES;
 pub use scan::PEEL;
 pub use scan::SPARSE;
 pub use scan::WIDTH;
+pub use scan::count_at;
+pub use scan::count_bytes;
 pub use scan::read_form;

@@ -14,8 +14,8 @@ use Rattle.system.specs.Fits.{listedIn}
 use Rattle.sparse_rules.specs.SparseCall.{sparseCall}
 use Rattle.lazy_units.specs.LazyCall.{lazyCall}
 use Rattle.link_form.specs.File.{lazyKind}
-use Rattle.link_form.specs.Loading.{startsOf, varsOf, constantsOf}
-use Rattle.link_form.proofs.LaidRows.{length-starts, length-vars, length-constants}
+use Rattle.link_load.specs.Loading.{startsOf, varsOf, constantsOf}
+use Rattle.link_load.proofs.LaidRows.{length-starts, length-vars, length-constants}
 use Rattle.link_rows.specs.RowsCall.{solverOf, laidCall, rowsCall}
 
 -- ---- the solver of a kind

@@ -14,9 +14,9 @@ use Rattle.sparse_rules.proofs.CallTheorems.{sparseCall-solves}
 use Rattle.lazy_units.specs.LazyCall.{lazyCall}
 use Rattle.lazy_units.proofs.CallTheorems.{lazyCall-solves}
 use Rattle.link_form.specs.File.{lazyKind}
-use Rattle.link_form.specs.Loading.{startsOf, varsOf, constantsOf}
+use Rattle.link_load.specs.Loading.{startsOf, varsOf, constantsOf}
 use Rattle.link_form.specs.Lent.{lentNumbers, lentWords, zeros}
-use Rattle.link_form.proofs.LaidRows.{laid-rows}
+use Rattle.link_load.proofs.LaidRows.{laid-rows}
 use Rattle.link_rows.specs.RowsCall.{solverOf, rowsCall}
 
 abbrev lent : List Equation → List ℕ → Lent

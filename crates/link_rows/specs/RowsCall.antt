@@ -8,7 +8,7 @@ use Rattle.answers.specs.Calls.{Call, pick}
 use Rattle.sparse_rules.specs.SparseCall.{sparseCall}
 use Rattle.lazy_units.specs.LazyCall.{lazyCall}
 use Rattle.link_form.specs.File.{lazyKind}
-use Rattle.link_form.specs.Loading.{startsOf, varsOf, constantsOf}
+use Rattle.link_load.specs.Loading.{startsOf, varsOf, constantsOf}
 use Rattle.link_form.specs.Lent.{lentNumbers, lentWords, zeros}
 
 -- the solver of a kind

@@ -85,7 +85,7 @@ fn load_and_solve(
     ensures { λ r. ⌜ r ≡ rowsCall kind n (fileRows kind m (now (bytes .entry))) (now (solution .entry)) .answer ⌝ }
     ensures { λ _. ⌜ now (solution .exit) ≡ rowsCall kind n (fileRows kind m (now (bytes .entry))) (now (solution .entry)) .solution ⌝ }
 {
-    link_form::load_rows(bytes, HEADER_BYTES, kind, WIDTH, m, starts, vars, constants);
+    link_load::load_rows(bytes, HEADER_BYTES, kind, WIDTH, m, starts, vars, constants);
     solve_laid(
         kind,
         n,

@@ -2,9 +2,8 @@ use borrow.Author.Needs.{needs}
 use mathlib.Core.Path.{ap}
 use Prim.Native.Nat.{_-_}
 use lib.ListN.{replicate}
-use Rattle.link_form.specs.File.{peelKind}
+use Rattle.link_form.specs.File.{peelKind, rowsAt}
 use Rattle.link_form.specs.Lent.{mostRows}
-use Rattle.link_form.specs.Loading.{rowsAt}
 use Rattle.link_edges.proofs.Filling.{Filling, filling-begin, filling-room, filling-turn, filling-end}
 use Rattle.link_edges.proofs.load.load_edges.Statement.{statement}
 use Rattle.link_edges.proofs.load.load_edges.Tie as tie

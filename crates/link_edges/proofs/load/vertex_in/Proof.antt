@@ -1,5 +1,5 @@
 use borrow.Author.Needs.{needs}
-use Rattle.link_form.proofs.Loading.{narrow-fits}
+use Rattle.link_form.proofs.Reading.{narrow-fits}
 use Rattle.link_edges.proofs.load.vertex_in.Statement.{statement}
 use Rattle.link_edges.proofs.load.vertex_in.Tie as tie
 

@@ -1,8 +1,9 @@
 use borrow.Author.Needs.{needs}
 use Prim.Native.Nat.{_-_}
-use Rattle.link_form.proofs.Loading.{Noting, noting-begin, noting-room, noting-turn, noting-end, narrow-fits}
-use Rattle.link_form.proofs.load.load_numbers.Statement.{statement}
-use Rattle.link_form.proofs.load.load_numbers.Tie as tie
+use Rattle.link_form.proofs.Reading.{narrow-fits}
+use Rattle.link_load.proofs.Loading.{Noting, noting-begin, noting-room, noting-turn, noting-end}
+use Rattle.link_load.proofs.load_numbers.Statement.{statement}
+use Rattle.link_load.proofs.load_numbers.Tie as tie
 
 abbrev Inv-loop : tie.InvT-loop
 Inv-loop bytes at w count vars₀ to p₀ i₀ vars p i = Noting bytes at w count vars₀ to p i vars

@@ -3,10 +3,10 @@ use native.Mathlib.Omega.{arith}
 use mathlib.Core.Path.{_∙_}
 use Prim.Native.Nat.{_-_}
 use lib.ListN.{length-set}
-use Rattle.link_form.specs.Loading.{rowsAt}
-use Rattle.link_form.proofs.Loading.{Loading, loading-begin, first-start, loading-room, loading-turn, loading-sizes, loading-end}
-use Rattle.link_form.proofs.load.load_rows.Statement.{statement}
-use Rattle.link_form.proofs.load.load_rows.Tie as tie
+use Rattle.link_form.specs.File.{rowsAt}
+use Rattle.link_load.proofs.Loading.{Loading, loading-begin, first-start, loading-room, loading-turn, loading-sizes, loading-end}
+use Rattle.link_load.proofs.load_rows.Statement.{statement}
+use Rattle.link_load.proofs.load_rows.Tie as tie
 
 abbrev Inv-loop : tie.InvT-loop
 Inv-loop bytes at kind w m starts₀ vars₀ constants₀ p₀ t₀ i₀ starts vars constants p t i = Loading bytes kind w m (rowsAt kind w m at bytes) starts₀ vars₀ constants₀ starts vars constants p t i

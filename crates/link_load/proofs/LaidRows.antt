@@ -12,7 +12,7 @@ use Rattle.areas.specs.Stretch.{stretch}
 use Rattle.areas.proofs.Stretch.{stretch-at}
 use Rattle.system.specs.Fits.{listedIn}
 use Rattle.system.specs.System.{equationAt, equationsFrom, equations}
-use Rattle.link_form.specs.Loading.{startsFrom, startsOf, varsOf, constantsOf}
+use Rattle.link_load.specs.Loading.{startsFrom, startsOf, varsOf, constantsOf}
 
 -- ---- how long they are
 

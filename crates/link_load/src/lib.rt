@@ -6,12 +6,12 @@ ghost use Prim.Native.Nat.{_+_, _*_, _≤_};
 ghost use lib.ListN.{length, drop};
 ghost use Rattle.areas.specs.Stretch.{put};
 ghost use Rattle.system.specs.Fits.{listedIn};
 ghost use Rattle.link_form.specs.Bytes.{fields};
-ghost use Rattle.link_form.specs.File.{maxBytes, count, rowBytes, row, readRows};
-ghost use Rattle.link_form.specs.Loading.{startsOf, varsOf, constantsOf, rowsAt};
-use crate::bytes::read_number;
-use crate::scan::count_at;
-use crate::scan::count_bytes;
+ghost use Rattle.link_form.specs.File.{maxBytes, count, rowBytes, row, readRows, rowsAt};
+ghost use Rattle.link_load.specs.Loading.{startsOf, varsOf, constantsOf};
+use link_form::count_at;
+use link_form::count_bytes;
+use link_form::read_number;
 
 // Writes the `count` numbers of `w` bytes that stand from `at` on to `vars`, from `to` on.
 fn load_numbers(bytes: &[u8], at: usize, w: usize, count: usize, vars: &mut [u32], to: usize)

@@ -1,10 +1,10 @@
 use native.Mathlib.Omega.{arith}
 use mathlib.Core.Path.{ap}
 use Prim.Native.Nat.{ℕ, _*_}
-use Rattle.link_form.proofs.Loading.{row-rooms, row-vars}
+use Rattle.link_load.proofs.Loading.{row-rooms, row-vars}
 use borrow.Author.Needs.{needs}
-use Rattle.link_form.proofs.load.load_vars.Statement.{statement}
-use Rattle.link_form.proofs.load.load_vars.Tie as tie
+use Rattle.link_load.proofs.load_vars.Statement.{statement}
+use Rattle.link_load.proofs.load_vars.Tie as tie
 
 count-at-requires : tie.Need-count-at-requires
 count-at-requires c κs =

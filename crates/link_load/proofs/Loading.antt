@@ -1,25 +1,24 @@
 -- The rows of a file laid out as starts, variables and constants.
-use mathlib.Core.Path.{_≡_, refl, sym, ap, subst, _∙_}
-use mathlib.Core.List.{List, [], _∷_, _++_, append-assoc, append-nil}
-use mathlib.Core.Option.{Option, none, some}
+use mathlib.Core.Path.{_≡_, refl, sym, ap, _∙_}
+use mathlib.Core.List.{List, [], _∷_, _++_}
+use mathlib.Core.Option.{some}
 use Prim.Native.Nat.{ℕ, zero, suc, _+_, _-_, _*_, _≤_, _<_}
 use native.Mathlib.Nat.{zero-add, le-refl, mul-le-mul, mul-le-mul-right, suc-mul}
 use native.Mathlib.Numerals.{add-one}
 use native.Mathlib.Omega.{arith}
-use lib.ListN.{length, take, drop, getD, set, length-set, length-append, length-drop}
-use lib.Seq.{drop-drop, set-set, take-add, length-take-le, take-all}
+use lib.ListN.{length, take, drop, set, length-set}
+use lib.Seq.{drop-drop, set-set, length-take-le, take-all}
 use Rattle.gf2.specs.Equation.{Equation}
 use Rattle.areas.specs.Stretch.{stretch, put}
 use Rattle.areas.proofs.Stretch.{put-none, put-more, put-put-over, length-put, set-is-put}
 use Rattle.areas.proofs.Behind.{put-behind}
 use Rattle.system.specs.Fits.{listedIn}
-use Rattle.link_form.specs.Bytes.{little, power, field, fields}
+use Rattle.link_form.specs.Bytes.{little, field, fields}
 use Rattle.link_form.specs.File.{maxBytes, countBytes, count, rowBytes, row, readRows}
-use Rattle.link_form.proofs.Reading.{power-le}
-use Rattle.link_form.specs.Loading.{startsFrom, startsOf, varsOf, constantsOf}
+use Rattle.link_load.specs.Loading.{startsFrom, startsOf, varsOf, constantsOf}
 use Rattle.link_form.proofs.Scanning.{length-fields, length-row, length-rows, listed-fits}
-use Rattle.link_form.proofs.RoundTrip.{taken}
-use Rattle.link_form.proofs.LaidRows.{length-starts, length-vars, length-constants, starts-snoc, vars-snoc, constants-snoc, listed-snoc, listed-take}
+use Rattle.link_load.proofs.LaidRows.{length-starts, length-vars, length-constants, starts-snoc, vars-snoc, constants-snoc, listed-snoc, listed-take}
+use Rattle.link_form.proofs.NextRow.{next-row}
 
 -- ---- numbers one after the other
 
@@ -85,11 +84,6 @@ noting-end {bytes} {at} {w} {count} {before} {to} {p} {i} {vars} n h =
     let e : i ≡ count = omega arith in
     rw e at (n .so-far)
 
--- what fits four bytes fits 32 bits
-pub narrow-fits : (w x : ℕ) → w ≤ 4 → x < power w → x < 4294967296
-unfolding power
-narrow-fits w x h s = let l = power-le w 4 h in omega arith
-
 -- ---- one row
 
 module _ (kind w p : ℕ) (bytes : List ℕ) where
@@ -109,28 +103,6 @@ module _ (kind w p : ℕ) (bytes : List ℕ) where
       rw (drop-drop (countBytes kind w + count kind w (drop p bytes) * w) p bytes, e)
 
 -- ---- all rows
-
--- the row that is read next, and those after it
-pub record Next (bytes : List ℕ) (kind w m : ℕ) (rows : List Equation) (p i : ℕ) : Type 0 where
-  pub there : p + rowBytes kind w (drop p bytes) ≤ length bytes
-  pub reads : readRows kind w (m - (i + 1)) (drop (p + rowBytes kind w (drop p bytes)) bytes) ≡ some (drop (i + 1) rows)
-  pub more : take (i + 1) rows ≡ take i rows ++ (row kind w (drop p bytes) ∷ [])
-
-pub next-row : (bytes : List ℕ) (kind w m : ℕ) (rows : List Equation) (p i : ℕ) → p ≤ length bytes → i < m → readRows kind w (m - i) (drop p bytes) ≡ some (drop i rows)
-    → Next bytes kind w m rows p i
-next-row bytes kind w m rows p i g h e =
-    let s : m - i ≡ suc (m - (i + 1)) = omega arith in
-    let t = taken kind w (m - (i + 1)) (drop p bytes) (drop i rows) (rw s at e) in
-    let b : ℕ = rowBytes kind w (drop p bytes) in
-    let l = length-drop p bytes in
-    record {
-      there = omega (arith, t .there);
-      reads =
-          ap (readRows kind w (m - (i + 1))) (sym (drop-drop b p bytes))
-          ∙ t .reads
-          ∙ ap some (ap (drop 1) (sym (t .all)) ∙ drop-drop 1 i rows);
-      more = take-add i 1 rows ∙ ap (λ (l : List Equation). take i rows ++ take 1 l) (t .all);
-    }
 
 sized : (kind w p : ℕ) (bytes : List ℕ) → p + countBytes kind w + count kind w (drop p bytes) * w + 8 ≡ p + rowBytes kind w (drop p bytes)
 unfolding rowBytes

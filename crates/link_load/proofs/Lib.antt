@@ -1,0 +1,2 @@
+pub mod LaidRows
+pub mod Loading
