@@ -16,10 +16,10 @@ use lent_cells::cells::mark_bytes;
 use lent_cells::cells::mark_numbers;
 use lent_cells::cells::mark_words;
 use lent_cells::cells::same_words;
+use lookups::reading::lookup;
 use peel_gates::ends::Peeling;
 use peelers::programs::peel_high_of;
 use peelers::programs::peel_low_of;
-use peelers::reading::lookup;
 use peeling::numbers::Edge;
 
 // The largest table whose crowd and core are counted too.

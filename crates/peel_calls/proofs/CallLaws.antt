@@ -14,7 +14,8 @@ use Rattle.peel_gates.specs.declared.ends.Peeling.{Peeling}
 use Rattle.peel_gates.specs.declared.rules.Gate.{Gate}
 use Rattle.peel_gates.specs.Rooms.{numbersRoom, bytesRoom}
 use Rattle.peel_gates.specs.Gates.{gateOf}
-use Rattle.peel_runs.specs.Runs.{Admitted, Leaves, runCall}
+use Rattle.peel_parts.specs.Parts.{Admitted}
+use Rattle.peel_runs.specs.Runs.{Leaves, runCall}
 use Rattle.peel_calls.specs.Judging.{Judged, peelingCall}
 
 both : (a b : Bool) → (a && b) ≡ true → (a ≡ true) × (b ≡ true)
@@ -58,7 +59,7 @@ module _ (high : Bool) (n : ℕ) (T : List Edge) (cells numbers bytes : List ℕ
               };
               all = refl;
               valid = all-valid n T (ltb-false (badEdge n T) (length T) hq);
-              cells = eqb-true (length cells) n ht;
+              size = eqb-true (length cells) n ht;
             },
             λ r x d b l. rw (hp, hq, ht, hu) l,
           )
@@ -78,18 +79,22 @@ module _ (high : Bool) (n : ℕ) (T : List Edge) (cells numbers bytes : List ℕ
 
 -- ---- as the call meets them, with its count of the edges
 
-module _ {high : Bool} {n m low : ℕ} {open? : Bool} {T : List Edge} {cells numbers bytes : List ℕ} (j : Judged high n m low open? T cells numbers bytes) where
-  same : gateOf high n m low (length cells) (length numbers) (length bytes) ≡ gateOf high n (length T) (badEdge n T) (length cells) (length numbers) (length bytes)
-  same = ap (λ (k : ℕ). gateOf high n k low (length cells) (length numbers) (length bytes)) (j .all) ∙ ap (λ (k : ℕ). gateOf high n (length T) k (length cells) (length numbers) (length bytes)) (j .lowest)
+pub judged : (high : Bool) (n : ℕ) (T : List Edge) (cells numbers bytes : List ℕ) {m low : ℕ} {g : Gate} → m ≡ length T → low ≡ badEdge n T
+    → g ≡ gateOf high n m low (length cells) (length numbers) (length bytes) → Judged high n m g T cells numbers bytes
+judged high n T cells numbers bytes {m} {low} all lowest e = record {
+  all = all;
+  gate = e ∙ ap (λ (k : ℕ). gateOf high n k low (length cells) (length numbers) (length bytes)) all ∙ ap (λ (k : ℕ). gateOf high n (length T) k (length cells) (length numbers) (length bytes)) lowest;
+}
 
-  is-open : open? ≡ gateOf high n (length T) (badEdge n T) (length cells) (length numbers) (length bytes) .opened
-  is-open = j .gate ∙ ap (λ (g : Gate). g .opened) same
+module _ {high : Bool} {n m : ℕ} {g : Gate} {T : List Edge} {cells numbers bytes : List ℕ} (j : Judged high n m g T cells numbers bytes) where
+  is : {b : Bool} → g .opened ≡ b → gateOf high n (length T) (badEdge n T) (length cells) (length numbers) (length bytes) .opened ≡ b
+  is q = sym (ap (λ (f : Gate). f .opened) (j .gate)) ∙ q
 
-  pub run-asks : open? ≡ true → Admitted high n m T cells numbers bytes
-  run-asks q = subst (λ (k : ℕ). Admitted high n k T cells numbers bytes) (sym (j .all)) (let-in high n T cells numbers bytes (sym is-open ∙ q) .0)
+  pub run-asks : g .opened ≡ true → Admitted high n m T cells numbers bytes
+  run-asks q = subst (λ (k : ℕ). Admitted high n k T cells numbers bytes) (sym (j .all)) (let-in high n T cells numbers bytes (is q) .0)
 
-  pub run-leaves : open? ≡ true → {r : Peeling} {x d b : List ℕ} → Leaves (runCall high n T cells numbers bytes) r x d b → Leaves (peelingCall high n T cells numbers bytes) r x d b
-  run-leaves q {r} {x} {d} {b} l = let-in high n T cells numbers bytes (sym is-open ∙ q) .1 r x d b l
+  pub run-leaves : g .opened ≡ true → {r : Peeling} {x d b : List ℕ} → Leaves (runCall high n T cells numbers bytes) r x d b → Leaves (peelingCall high n T cells numbers bytes) r x d b
+  run-leaves q {r} {x} {d} {b} l = let-in high n T cells numbers bytes (is q) .1 r x d b l
 
-  pub refusal-leaves : open? ≡ false → {r : Peeling} → r ≡ gateOf high n m low (length cells) (length numbers) (length bytes) .refusal → Leaves (peelingCall high n T cells numbers bytes) r cells numbers bytes
-  refusal-leaves q {r} e = turned-away high n T cells numbers bytes r (sym is-open ∙ q) (e ∙ ap (λ (g : Gate). g .refusal) same)
+  pub refusal-leaves : g .opened ≡ false → Leaves (peelingCall high n T cells numbers bytes) (g .refusal) cells numbers bytes
+  refusal-leaves q = turned-away high n T cells numbers bytes (g .refusal) (is q) (ap (λ (f : Gate). f .refusal) (j .gate))

@@ -6,8 +6,8 @@ use denote.Plain.{UInt}
 use denote.Struct.Laws as LL
 use Rattle.peel_rules.specs.Edges.{badEdge}
 use Rattle.peel_gates.specs.Gates.{gateOf}
-use Rattle.peel_runs.specs.Runs.{Admitted, Leaves, runCall}
-use Rattle.peel_calls.specs.Judging.{peelingCall, Judged}
+use Rattle.peel_parts.specs.Parts.{Admitted}
+use Rattle.peel_runs.specs.Runs.{Leaves, runCall}
 use Rattle.peeling.specs.declared.numbers.Edge.{Edge}
 use Rattle.peeling.proofs.numbers.Edge as Edgeᴿ
 use Rattle.walk_rules.proofs.Lent.{val, at, Shr, Mut, Lent as LentFor, Kept, lends, backs}
@@ -18,13 +18,14 @@ use Rattle.peel_walks.proofs.table.bad_edge.Symbol as bad-edge-def
 use Rattle.peel_gates.specs.declared.ends.Peeling.{Peeling}
 use Rattle.peel_gates.proofs.ends.Peeling as Peelingᴿ
 use Rattle.peel_gates.proofs.ends.Peeling.Laws as Peelingᴸ
-use Rattle.peel_gates.proofs.rules.opens as opens
-use Rattle.peel_gates.proofs.rules.opens.Symbol as opens-def
-use Rattle.peel_gates.proofs.rules.refusal as refusal
-use Rattle.peel_gates.proofs.rules.refusal.Symbol as refusal-def
+use Rattle.peel_gates.specs.declared.rules.Gate.{Gate}
+use Rattle.peel_gates.proofs.rules.Gate as Gateᴿ
+use Rattle.peel_gates.proofs.rules.Gate.Laws as Gateᴸ
+use Rattle.peel_gates.proofs.rules.judge as judge
+use Rattle.peel_gates.proofs.rules.judge.Symbol as judge-def
+use Rattle.peel_calls.specs.Judging.{Judged, peelingCall}
 use Rattle.peel_calls.proofs.call.enter as enter
 use Rattle.peel_calls.proofs.call.enter.Symbol as enter-def
-use Rattle.peel_gates.proofs.ends.ended as ended
 use Rattle.peel_runs.proofs.run.run_peeler as run-peeler
 use Rattle.peel_runs.proofs.run.run_peeler.Symbol as run-peeler-def
 
@@ -41,17 +42,11 @@ module _ {M : Type 1} (𝓤 : URA M) (H : Heap 𝓤) (A : Atoms 𝓤) (at-mem : 
   abbrev pub to-bad-edge : (κx : Lft) (qx : Share) (x : RefT (List Edge)) (n : ℕ) → BadEdgeᶜ .Ghost
   to-bad-edge κx qx x n = (((κx, tt), (qx, tt), tt, (x, (n, tt)), (val x ∷ [], (vint w64 n ∷ [], tt))), tt)
 
-  abbrev pub Opensᶜ : Contract 𝓤
-  Opensᶜ = tripleOf 𝓤 H A opens.signature (opens.spec 𝓤 H A at-mem run)
+  abbrev pub Judgeᶜ : Contract 𝓤
+  Judgeᶜ = tripleOf 𝓤 H A judge.signature (judge.spec 𝓤 H A at-mem run)
 
-  abbrev pub to-opens : (high : Bool) (n : ℕ) (m : ℕ) (bad : ℕ) (c : ℕ) (d : ℕ) (b : ℕ) → Opensᶜ .Ghost
-  to-opens high n m bad c d b = ((tt, tt, tt, (high, (n, (m, (bad, (c, (d, (b, tt))))))), (vbool high ∷ [], (vint w64 n ∷ [], (vint w64 m ∷ [], (vint w64 bad ∷ [], (vint w64 c ∷ [], (vint w64 d ∷ [], (vint w64 b ∷ [], tt)))))))), tt)
-
-  abbrev pub Refusalᶜ : Contract 𝓤
-  Refusalᶜ = tripleOf 𝓤 H A refusal.signature (refusal.spec 𝓤 H A at-mem run)
-
-  abbrev pub to-refusal : (high : Bool) (n : ℕ) (m : ℕ) (bad : ℕ) (c : ℕ) (d : ℕ) (b : ℕ) → Refusalᶜ .Ghost
-  to-refusal high n m bad c d b = ((tt, tt, tt, (high, (n, (m, (bad, (c, (d, (b, tt))))))), (vbool high ∷ [], (vint w64 n ∷ [], (vint w64 m ∷ [], (vint w64 bad ∷ [], (vint w64 c ∷ [], (vint w64 d ∷ [], (vint w64 b ∷ [], tt)))))))), tt)
+  abbrev pub to-judge : (high : Bool) (n : ℕ) (m : ℕ) (bad : ℕ) (c : ℕ) (d : ℕ) (b : ℕ) → Judgeᶜ .Ghost
+  to-judge high n m bad c d b = ((tt, tt, tt, (high, (n, (m, (bad, (c, (d, (b, tt))))))), (vbool high ∷ [], (vint w64 n ∷ [], (vint w64 m ∷ [], (vint w64 bad ∷ [], (vint w64 c ∷ [], (vint w64 d ∷ [], (vint w64 b ∷ [], tt)))))))), tt)
 
   abbrev pub RunPeelerᶜ : Contract 𝓤
   RunPeelerᶜ = tripleOf 𝓤 H A run-peeler.signature (run-peeler.spec 𝓤 H A at-mem run)
@@ -62,8 +57,8 @@ module _ {M : Type 1} (𝓤 : URA M) (H : Heap 𝓤) (A : Atoms 𝓤) (at-mem : 
   abbrev pub Enterᶜ : Contract 𝓤
   Enterᶜ = tripleOf 𝓤 H A enter.signature (enter.spec 𝓤 H A at-mem run)
 
-  abbrev pub to-enter : (κx : Lft) (qx : Share) (x : RefT (List Edge)) (high : Bool) (n : ℕ) (m : ℕ) (bad : ℕ) (o : Bool) (νw : ℕ) (δw : GName) (w : RefT (List ℕ)) (s : List ℕ) (νy : ℕ) (δy : GName) (y : RefT (List ℕ)) (d : List ℕ) (νz : ℕ) (δz : GName) (z : RefT (List ℕ)) (b : List ℕ) → Enterᶜ .Ghost
-  to-enter κx qx x high n m bad o νw δw w s νy δy y d νz δz z b = (((κx, (νw ∷ [], (νy ∷ [], (νz ∷ [], tt)))), (qx, (fullShare, (fullShare, (fullShare, tt)))), tt, (x, (high, (n, (m, (bad, (o, (at w δw s, (at y δy d, (at z δz b, tt))))))))), (val x ∷ [], (vbool high ∷ [], (vint w64 n ∷ [], (vint w64 m ∷ [], (vint w64 bad ∷ [], (vbool o ∷ [], (val w ∷ [], (val y ∷ [], (val z ∷ [], tt)))))))))), tt)
+  abbrev pub to-enter : (κx : Lft) (qx : Share) (x : RefT (List Edge)) (high : Bool) (n : ℕ) (m : ℕ) (g : Gate) (νw : ℕ) (δw : GName) (w : RefT (List ℕ)) (s : List ℕ) (νy : ℕ) (δy : GName) (y : RefT (List ℕ)) (d : List ℕ) (νz : ℕ) (δz : GName) (z : RefT (List ℕ)) (b : List ℕ) → Enterᶜ .Ghost
+  to-enter κx qx x high n m g νw δw w s νy δy y d νz δz z b = (((κx, (νw ∷ [], (νy ∷ [], (νz ∷ [], tt)))), (qx, (fullShare, (fullShare, (fullShare, tt)))), tt, (x, (high, (n, (m, (g, (at w δw s, (at y δy d, (at z δz b, tt)))))))), (val x ∷ [], (vbool high ∷ [], (vint w64 n ∷ [], (vint w64 m ∷ [], (LL.vals Gateᴿ.the-type Gateᴸ.the-laws g, (val w ∷ [], (val y ∷ [], (val z ∷ [], tt))))))))), tt)
 
 module _ {M : Type 1} {𝓤 : URA M} {H : Heap 𝓤} {A : Atoms 𝓤} {K : Type 0} {W : Given 𝓤 H A} {Γ : List (Item 𝓤)} {E : Env 𝓤 H} {C : Calls 𝓤 H} {Λ : Loops 𝓤 H} {p : After 𝓤 H} {xs : List Operand} {dst : Place} {rest : Code} where
   pub calls-edge-count : K → FmC 𝓤 H (W .laws) C → (at-mem : Memory → SProp 𝓤) (run : Routine → Fun 𝓤) → Triple 𝓤 (C edge-count-def.name) (EdgeCountᶜ 𝓤 H A at-mem run)
@@ -100,38 +95,21 @@ module _ {M : Type 1} {𝓤 : URA M} {H : Heap 𝓤} {A : Atoms 𝓤} {K : Type 
       goes : ent 𝓤 (⋆ 𝓤 H A (‵ (Shr Edgeᴿ.the-row κx x) ∷ ‵ (flft κx qx) ∷ [])) (BadEdgeᶜ 𝓤 H A at-mem run .pre (to-bad-edge 𝓤 H A at-mem run κx qx x n))
       goes = qed W (‵ (Shr Edgeᴿ.the-row κx x) ∷ ‵ (flft κx qx) ∷ []) ∵ nothing ! $ move ! (2 ∷ 0 ∷ []) $ join ! $ nothing ! $ owned ! (UInt w64) (Is (UInt w64)) (uint-makes 𝓤 H A W w64) n _ (refl, n-fits) $ fjoin ! $ move ! (2 ∷ 0 ∷ []) $ fjoin ! $ move ! (1 ∷ 0 ∷ []) $ join ! $ frame ! $ done !
 
-  pub calls-opens : K → FmC 𝓤 H (W .laws) C → (at-mem : Memory → SProp 𝓤) (run : Routine → Fun 𝓤) → Triple 𝓤 (C opens-def.name) (Opensᶜ 𝓤 H A at-mem run)
+  pub calls-judge : K → FmC 𝓤 H (W .laws) C → (at-mem : Memory → SProp 𝓤) (run : Routine → Fun 𝓤) → Triple 𝓤 (C judge-def.name) (Judgeᶜ 𝓤 H A at-mem run)
       → (high : Bool) → (n : ℕ) → n < 2 ^ 64 → (m : ℕ) → m < 2 ^ 64 → (bad : ℕ) → bad < 2 ^ 64 → (c : ℕ) → c < 2 ^ 64 → (d : ℕ) → d < 2 ^ 64 → (b : ℕ) → b < 2 ^ 64
-      → (Opds K W (raw (Opensᶜ 𝓤 H A at-mem run .pre (to-opens 𝓤 H A at-mem run high n m bad c d b)) ∷ Γ) E xs (vbool high ∷ vint w64 n ∷ vint w64 m ∷ vint w64 bad ∷ vint w64 c ∷ vint w64 d ∷ vint w64 b ∷ []))
-      → ((res : Bool) → (res ≡ gateOf high n m bad c d b .opened) → Seq K W (Γ) (lands C Λ E dst (vbool res) rest p))
-      → Seq K W (Γ) (runs C Λ E (seq (call opens-def.name xs dst) rest) p)
-  calls-opens t fm at-mem run known high n n-fits m m-fits bad bad-fits c c-fits d d-fits b b-fits os k =
-      use0 W (raw (Opensᶜ 𝓤 H A at-mem run .pre (to-opens 𝓤 H A at-mem run high n m bad c d b))) goes $
-      calls-at t fm (Opensᶜ 𝓤 H A at-mem run) known (to-opens 𝓤 H A at-mem run high n m bad c d b) os (λ v.
-      use1 W (later (some (λ (res : Bool). ((‵ ftrue) ⊛ ‵ (bool .own res (v ∷ []))) ⊛ raw (ensured 𝓤 H A opens.ended (opens.clauses 𝓤 H A at-mem run) tt (high, (n, (m, (bad, (c, (d, (b, tt))))))) tt res)))) (id⊢ 𝓤 _) $ await t tt $ pick t (λ res. split t $ move t (1 ∷ []) $
-      use1 W (some (λ (zs : (Unit {0} × (Unit {0} × (Unit {0} × (Unit {0} × (Unit {0} × (Unit {0} × (Unit {0} × Unit {0})))))))). ‵ (lasts opens.ended tt (high, (n, (m, (bad, (c, (d, (b, tt))))))) zs) ⊛ raw (fact 𝓤 (res ≡ gateOf high n m bad c d b .opened)))) (id⊢ 𝓤 _) $ pick t (λ zs. split t $ move t (1 ∷ []) $ heard t (res ≡ gateOf high n m bad c d b .opened) (λ said.
-      fsplit t $ let-go t $ fsplit t $ let-go t $ fsplit t $ let-go t $ fsplit t $ let-go t $ fsplit t $ let-go t $ fsplit t $ let-go t $ fsplit t $ let-go t $ let-go t $ split t $ move t (1 ∷ []) $ facts t bool (Is bool) (shows 𝓤 H A bool) res (v ∷ []) (λ is.
+      → (Opds K W (raw (Judgeᶜ 𝓤 H A at-mem run .pre (to-judge 𝓤 H A at-mem run high n m bad c d b)) ∷ Γ) E xs (vbool high ∷ vint w64 n ∷ vint w64 m ∷ vint w64 bad ∷ vint w64 c ∷ vint w64 d ∷ vint w64 b ∷ []))
+      → ((res : Gate) → (res ≡ gateOf high n m bad c d b) → Is Gateᴿ.the-row res (LL.vals Gateᴿ.the-type Gateᴸ.the-laws res) → Seq K W (Γ) (lands C Λ E dst (only (LL.vals Gateᴿ.the-type Gateᴸ.the-laws res)) rest p))
+      → Seq K W (Γ) (runs C Λ E (seq (call judge-def.name xs dst) rest) p)
+  calls-judge t fm at-mem run known high n n-fits m m-fits bad bad-fits c c-fits d d-fits b b-fits os k =
+      use0 W (raw (Judgeᶜ 𝓤 H A at-mem run .pre (to-judge 𝓤 H A at-mem run high n m bad c d b))) goes $
+      calls-at t fm (Judgeᶜ 𝓤 H A at-mem run) known (to-judge 𝓤 H A at-mem run high n m bad c d b) os (λ v.
+      use1 W (later (some (λ (res : Gate). ((‵ ftrue) ⊛ ‵ (Gateᴿ.the-row .own res (v ∷ []))) ⊛ raw (ensured 𝓤 H A judge.ended (judge.clauses 𝓤 H A at-mem run) tt (high, (n, (m, (bad, (c, (d, (b, tt))))))) tt res)))) (id⊢ 𝓤 _) $ await t tt $ pick t (λ res. split t $ move t (1 ∷ []) $
+      use1 W (some (λ (zs : (Unit {0} × (Unit {0} × (Unit {0} × (Unit {0} × (Unit {0} × (Unit {0} × (Unit {0} × Unit {0})))))))). ‵ (lasts judge.ended tt (high, (n, (m, (bad, (c, (d, (b, tt))))))) zs) ⊛ raw (fact 𝓤 (res ≡ gateOf high n m bad c d b)))) (id⊢ 𝓤 _) $ pick t (λ zs. split t $ move t (1 ∷ []) $ heard t (res ≡ gateOf high n m bad c d b) (λ said.
+      fsplit t $ let-go t $ fsplit t $ let-go t $ fsplit t $ let-go t $ fsplit t $ let-go t $ fsplit t $ let-go t $ fsplit t $ let-go t $ fsplit t $ let-go t $ let-go t $ split t $ move t (1 ∷ []) $ facts t Gateᴿ.the-row (Is Gateᴿ.the-row) (shows 𝓤 H A Gateᴿ.the-row) res (v ∷ []) (λ is.
       let-go t $
-      regoal t (λ (u : Val). lands C Λ E dst u rest p) (ap only is) refl $ k res said)))))
+      regoal t (λ (u : Val). lands C Λ E dst u rest p) (ap only (LL.tells Gateᴿ.the-type Gateᴸ.the-laws res _ is)) refl $ k res said (subst (Is Gateᴿ.the-row res) (LL.tells Gateᴿ.the-type Gateᴸ.the-laws res _ is) is))))))
     where
-      goes : ent 𝓤 (⋆ 𝓤 H A ([])) (Opensᶜ 𝓤 H A at-mem run .pre (to-opens 𝓤 H A at-mem run high n m bad c d b))
-      goes = qed W ([]) ∵ nothing ! $ nothing ! $ owned ! (UInt w64) (Is (UInt w64)) (uint-makes 𝓤 H A W w64) b _ (refl, b-fits) $ fjoin ! $ owned ! (UInt w64) (Is (UInt w64)) (uint-makes 𝓤 H A W w64) d _ (refl, d-fits) $ fjoin ! $ owned ! (UInt w64) (Is (UInt w64)) (uint-makes 𝓤 H A W w64) c _ (refl, c-fits) $ fjoin ! $ owned ! (UInt w64) (Is (UInt w64)) (uint-makes 𝓤 H A W w64) bad _ (refl, bad-fits) $ fjoin ! $ owned ! (UInt w64) (Is (UInt w64)) (uint-makes 𝓤 H A W w64) m _ (refl, m-fits) $ fjoin ! $ owned ! (UInt w64) (Is (UInt w64)) (uint-makes 𝓤 H A W w64) n _ (refl, n-fits) $ fjoin ! $ owned ! bool (Is bool) (bool-makes 𝓤 H A W) high _ refl $ fjoin ! $ move ! (1 ∷ 0 ∷ []) $ join ! $ frame ! $ done !
-
-  pub calls-refusal : K → FmC 𝓤 H (W .laws) C → (at-mem : Memory → SProp 𝓤) (run : Routine → Fun 𝓤) → Triple 𝓤 (C refusal-def.name) (Refusalᶜ 𝓤 H A at-mem run)
-      → (high : Bool) → (n : ℕ) → n < 2 ^ 64 → (m : ℕ) → m < 2 ^ 64 → (bad : ℕ) → bad < 2 ^ 64 → (c : ℕ) → c < 2 ^ 64 → (d : ℕ) → d < 2 ^ 64 → (b : ℕ) → b < 2 ^ 64
-      → (Opds K W (raw (Refusalᶜ 𝓤 H A at-mem run .pre (to-refusal 𝓤 H A at-mem run high n m bad c d b)) ∷ Γ) E xs (vbool high ∷ vint w64 n ∷ vint w64 m ∷ vint w64 bad ∷ vint w64 c ∷ vint w64 d ∷ vint w64 b ∷ []))
-      → ((res : Peeling) → (res ≡ gateOf high n m bad c d b .refusal) → Is Peelingᴿ.the-row res (LL.vals Peelingᴿ.the-type Peelingᴸ.the-laws res) → Seq K W (Γ) (lands C Λ E dst (only (LL.vals Peelingᴿ.the-type Peelingᴸ.the-laws res)) rest p))
-      → Seq K W (Γ) (runs C Λ E (seq (call refusal-def.name xs dst) rest) p)
-  calls-refusal t fm at-mem run known high n n-fits m m-fits bad bad-fits c c-fits d d-fits b b-fits os k =
-      use0 W (raw (Refusalᶜ 𝓤 H A at-mem run .pre (to-refusal 𝓤 H A at-mem run high n m bad c d b))) goes $
-      calls-at t fm (Refusalᶜ 𝓤 H A at-mem run) known (to-refusal 𝓤 H A at-mem run high n m bad c d b) os (λ v.
-      use1 W (later (some (λ (res : Peeling). ((‵ ftrue) ⊛ ‵ (Peelingᴿ.the-row .own res (v ∷ []))) ⊛ raw (ensured 𝓤 H A refusal.ended (refusal.clauses 𝓤 H A at-mem run) tt (high, (n, (m, (bad, (c, (d, (b, tt))))))) tt res)))) (id⊢ 𝓤 _) $ await t tt $ pick t (λ res. split t $ move t (1 ∷ []) $
-      use1 W (some (λ (zs : (Unit {0} × (Unit {0} × (Unit {0} × (Unit {0} × (Unit {0} × (Unit {0} × (Unit {0} × Unit {0})))))))). ‵ (lasts refusal.ended tt (high, (n, (m, (bad, (c, (d, (b, tt))))))) zs) ⊛ raw (fact 𝓤 (res ≡ gateOf high n m bad c d b .refusal)))) (id⊢ 𝓤 _) $ pick t (λ zs. split t $ move t (1 ∷ []) $ heard t (res ≡ gateOf high n m bad c d b .refusal) (λ said.
-      fsplit t $ let-go t $ fsplit t $ let-go t $ fsplit t $ let-go t $ fsplit t $ let-go t $ fsplit t $ let-go t $ fsplit t $ let-go t $ fsplit t $ let-go t $ let-go t $ split t $ move t (1 ∷ []) $ facts t Peelingᴿ.the-row (Is Peelingᴿ.the-row) (shows 𝓤 H A Peelingᴿ.the-row) res (v ∷ []) (λ is.
-      let-go t $
-      regoal t (λ (u : Val). lands C Λ E dst u rest p) (ap only (LL.tells Peelingᴿ.the-type Peelingᴸ.the-laws res _ is)) refl $ k res said (subst (Is Peelingᴿ.the-row res) (LL.tells Peelingᴿ.the-type Peelingᴸ.the-laws res _ is) is))))))
-    where
-      goes : ent 𝓤 (⋆ 𝓤 H A ([])) (Refusalᶜ 𝓤 H A at-mem run .pre (to-refusal 𝓤 H A at-mem run high n m bad c d b))
+      goes : ent 𝓤 (⋆ 𝓤 H A ([])) (Judgeᶜ 𝓤 H A at-mem run .pre (to-judge 𝓤 H A at-mem run high n m bad c d b))
       goes = qed W ([]) ∵ nothing ! $ nothing ! $ owned ! (UInt w64) (Is (UInt w64)) (uint-makes 𝓤 H A W w64) b _ (refl, b-fits) $ fjoin ! $ owned ! (UInt w64) (Is (UInt w64)) (uint-makes 𝓤 H A W w64) d _ (refl, d-fits) $ fjoin ! $ owned ! (UInt w64) (Is (UInt w64)) (uint-makes 𝓤 H A W w64) c _ (refl, c-fits) $ fjoin ! $ owned ! (UInt w64) (Is (UInt w64)) (uint-makes 𝓤 H A W w64) bad _ (refl, bad-fits) $ fjoin ! $ owned ! (UInt w64) (Is (UInt w64)) (uint-makes 𝓤 H A W w64) m _ (refl, m-fits) $ fjoin ! $ owned ! (UInt w64) (Is (UInt w64)) (uint-makes 𝓤 H A W w64) n _ (refl, n-fits) $ fjoin ! $ owned ! bool (Is bool) (bool-makes 𝓤 H A W) high _ refl $ fjoin ! $ move ! (1 ∷ 0 ∷ []) $ join ! $ frame ! $ done !
 
   pub calls-run-peeler : K → FmC 𝓤 H (W .laws) C → (at-mem : Memory → SProp 𝓤) (run : Routine → Fun 𝓤) → Triple 𝓤 (C run-peeler-def.name) (RunPeelerᶜ 𝓤 H A at-mem run)
@@ -152,18 +130,18 @@ module _ {M : Type 1} {𝓤 : URA M} {H : Heap 𝓤} {A : Atoms 𝓤} {K : Type 
       goes νw δw νy δy νz δz = qed W ((‵ (Shr Edgeᴿ.the-row κx x) ⊛ ‵ (LentFor u64 νw δw w s) ⊛ ‵ (LentFor u32 νy δy y d) ⊛ ‵ (LentFor u8 νz δz z b)) ∷ (‵ (flft κx qx) ⊛ ‵ (flft (νw ∷ []) fullShare) ⊛ ‵ (flft (νy ∷ []) fullShare) ⊛ ‵ (flft (νz ∷ []) fullShare)) ∷ []) ∵ says ! required $ split ! $ move ! (1 ∷ []) $ split ! $ move ! (1 ∷ []) $ split ! $ move ! (4 ∷ []) $ split ! $ move ! (1 ∷ []) $ split ! $ move ! (1 ∷ []) $ split ! $ nothing ! $ move ! (2 ∷ 0 ∷ []) $ join ! $ move ! (1 ∷ 0 ∷ []) $ join ! $ move ! (1 ∷ 0 ∷ []) $ join ! $ move ! (1 ∷ 0 ∷ []) $ join ! $ nothing ! $ move ! (3 ∷ 0 ∷ []) $ fjoin ! $ move ! (2 ∷ 0 ∷ []) $ fjoin ! $ move ! (2 ∷ 0 ∷ []) $ fjoin ! $ owned ! (UInt w64) (Is (UInt w64)) (uint-makes 𝓤 H A W w64) m _ (refl, m-fits) $ fjoin ! $ owned ! (UInt w64) (Is (UInt w64)) (uint-makes 𝓤 H A W w64) n _ (refl, n-fits) $ fjoin ! $ owned ! bool (Is bool) (bool-makes 𝓤 H A W) high _ refl $ fjoin ! $ move ! (2 ∷ 0 ∷ []) $ fjoin ! $ move ! (1 ∷ 0 ∷ []) $ frame ! $ done !
 
   pub calls-enter : K → FmC 𝓤 H (W .laws) C → (at-mem : Memory → SProp 𝓤) (run : Routine → Fun 𝓤) → Triple 𝓤 (C enter-def.name) (Enterᶜ 𝓤 H A at-mem run)
-      → (κx : Lft) (qx : Share) (x : RefT (List Edge)) → (high : Bool) → (n : ℕ) → n < 2 ^ 64 → (m : ℕ) → m < 2 ^ 64 → (bad : ℕ) → bad < 2 ^ 64 → (o : Bool) → (κw : Lft) (qw : Share) (w : RefT (List ℕ)) (s : List ℕ) → length s ≡ length (now w) → Room u64 (length (now w)) → (κy : Lft) (qy : Share) (y : RefT (List ℕ)) (d : List ℕ) → length d ≡ length (now y) → Room u32 (length (now y)) → (κz : Lft) (qz : Share) (z : RefT (List ℕ)) (b : List ℕ) → length b ≡ length (now z) → Room u8 (length (now z)) → Judged high n m bad o (now x) s d b
-      → ((νw : ℕ) (δw : GName) (νy : ℕ) (δy : GName) (νz : ℕ) (δz : GName) → Opds K W (raw (Enterᶜ 𝓤 H A at-mem run .pre (to-enter 𝓤 H A at-mem run κx qx x high n m bad o νw δw w s νy δy y d νz δz z b)) ∷ ‵ ftrue ∷ ‵ ftrue ∷ ‵ ftrue ∷ ‵ (Kept u8 κz qz νz δz z b) ∷ ‵ (Kept u32 κy qy νy δy y d) ∷ ‵ (Kept u64 κw qw νw δw w s) ∷ ‵ (Shr Edgeᴿ.the-row κx x) ∷ Γ) E xs (val x ∷ vbool high ∷ vint w64 n ∷ vint w64 m ∷ vint w64 bad ∷ vbool o ∷ val w ∷ val y ∷ val z ∷ []))
+      → (κx : Lft) (qx : Share) (x : RefT (List Edge)) → (high : Bool) → (n : ℕ) → n < 2 ^ 64 → (m : ℕ) → m < 2 ^ 64 → (g : Gate) → Is Gateᴿ.the-row g (LL.vals Gateᴿ.the-type Gateᴸ.the-laws g) → (κw : Lft) (qw : Share) (w : RefT (List ℕ)) (s : List ℕ) → length s ≡ length (now w) → Room u64 (length (now w)) → (κy : Lft) (qy : Share) (y : RefT (List ℕ)) (d : List ℕ) → length d ≡ length (now y) → Room u32 (length (now y)) → (κz : Lft) (qz : Share) (z : RefT (List ℕ)) (b : List ℕ) → length b ≡ length (now z) → Room u8 (length (now z)) → Judged high n m g (now x) s d b
+      → ((νw : ℕ) (δw : GName) (νy : ℕ) (δy : GName) (νz : ℕ) (δz : GName) → Opds K W (raw (Enterᶜ 𝓤 H A at-mem run .pre (to-enter 𝓤 H A at-mem run κx qx x high n m g νw δw w s νy δy y d νz δz z b)) ∷ ‵ ftrue ∷ ‵ ftrue ∷ ‵ ftrue ∷ ‵ (Kept u8 κz qz νz δz z b) ∷ ‵ (Kept u32 κy qy νy δy y d) ∷ ‵ (Kept u64 κw qw νw δw w s) ∷ ‵ (Shr Edgeᴿ.the-row κx x) ∷ Γ) E xs (val x ∷ vbool high ∷ vint w64 n ∷ vint w64 m ∷ only (LL.vals Gateᴿ.the-type Gateᴸ.the-laws g) ∷ val w ∷ val y ∷ val z ∷ []))
       → ((res : Peeling) → (zsw : List ℕ) → (zsy : List ℕ) → (zsz : List ℕ) → (Leaves (peelingCall high n (now x) s d b) res zsw zsy zsz) → length zsw ≡ length s → length zsy ≡ length d → length zsz ≡ length b → Is Peelingᴿ.the-row res (LL.vals Peelingᴿ.the-type Peelingᴸ.the-laws res) → Seq K W (‵ (Shr Edgeᴿ.the-row κx x) ∷ ‵ (flft κx qx) ∷ ‵ (Mut u64 κw w zsw) ∷ ‵ (flft κw qw) ∷ ‵ (Mut u32 κy y zsy) ∷ ‵ (flft κy qy) ∷ ‵ (Mut u8 κz z zsz) ∷ ‵ (flft κz qz) ∷ Γ) (lands C Λ E dst (only (LL.vals Peelingᴿ.the-type Peelingᴸ.the-laws res)) rest p))
       → Seq K W (‵ (Shr Edgeᴿ.the-row κx x) ∷ ‵ (flft κx qx) ∷ ‵ (Mut u64 κw w s) ∷ ‵ (flft κw qw) ∷ ‵ (Mut u32 κy y d) ∷ ‵ (flft κy qy) ∷ ‵ (Mut u8 κz z b) ∷ ‵ (flft κz qz) ∷ Γ) (runs C Λ E (seq (call enter-def.name xs dst) rest) p)
-  calls-enter t fm at-mem run known κx qx x high n n-fits m m-fits bad bad-fits o κw qw w s long-w room-w κy qy y d long-y room-y κz qz z b long-z room-z required os k =
-      use1 W (‵ (Shr Edgeᴿ.the-row κx x) ⊛ ‵ (Shr Edgeᴿ.the-row κx x)) (shr-slice-copy 𝓤 H A W (named 0) κx Edgeᴿ.the-row .twice x (val x ∷ [])) $ split t $ move t (3 ∷ 4 ∷ []) $ lends t tt u64 κw qw w s long-w (λ νw δw. move t (6 ∷ 7 ∷ []) $ lends t tt u32 κy qy y d long-y (λ νy δy. move t (9 ∷ 10 ∷ []) $ lends t tt u8 κz qz z b long-z (λ νz δz. move t (3 ∷ 0 ∷ []) $ join t $ move t (5 ∷ 0 ∷ []) $ join t $ move t (9 ∷ 0 ∷ []) $ join t $ move t (3 ∷ 1 ∷ []) $ join t $ move t (4 ∷ 0 ∷ []) $ join t $ move t (6 ∷ 0 ∷ []) $ join t $ use2 W (raw (Enterᶜ 𝓤 H A at-mem run .pre (to-enter 𝓤 H A at-mem run κx qx x high n m bad o νw δw w s νy δy y d νz δz z b))) (goes νw δw νy δy νz δz) $ nothing t $ nothing t $ nothing t $ move t (3 ∷ []) $
-      calls-at t fm (Enterᶜ 𝓤 H A at-mem run) known (to-enter 𝓤 H A at-mem run κx qx x high n m bad o νw δw w s νy δy y d νz δz z b) (os νw δw νy δy νz δz) (λ v.
-      use1 W (later (some (λ (res : Peeling). ((‵ (flft κx qx) ⊛ ‵ (flft (νw ∷ []) fullShare) ⊛ ‵ (flft (νy ∷ []) fullShare) ⊛ ‵ (flft (νz ∷ []) fullShare) ⊛ ‵ ftrue) ⊛ ‵ (Peelingᴿ.the-row .own res (v ∷ []))) ⊛ raw (ensured 𝓤 H A enter.ended (enter.clauses 𝓤 H A at-mem run) (κx, (νw ∷ [], (νy ∷ [], (νz ∷ [], tt)))) (x, (high, (n, (m, (bad, (o, (at w δw s, (at y δy d, (at z δz b, tt))))))))) tt res)))) (id⊢ 𝓤 _) $ await t tt $ pick t (λ res. split t $ move t (1 ∷ []) $
-      use1 W (some (λ (zs : (Unit {0} × (Unit {0} × (Unit {0} × (Unit {0} × (Unit {0} × (Unit {0} × (List ℕ × (List ℕ × (List ℕ × Unit {0})))))))))). ‵ (lasts enter.ended (κx, (νw ∷ [], (νy ∷ [], (νz ∷ [], tt)))) (x, (high, (n, (m, (bad, (o, (at w δw s, (at y δy d, (at z δz b, tt))))))))) zs) ⊛ raw (fact 𝓤 (Leaves (peelingCall high n (now x) s d b) res (zs .1 .1 .1 .1 .1 .1 .0) (zs .1 .1 .1 .1 .1 .1 .1 .0) (zs .1 .1 .1 .1 .1 .1 .1 .1 .0))))) (id⊢ 𝓤 _) $ pick t (λ zs. split t $ move t (1 ∷ []) $ heard t (Leaves (peelingCall high n (now x) s d b) res (zs .1 .1 .1 .1 .1 .1 .0) (zs .1 .1 .1 .1 .1 .1 .1 .0) (zs .1 .1 .1 .1 .1 .1 .1 .1 .0)) (λ said.
-      fsplit t $ let-go t $ fsplit t $ let-go t $ fsplit t $ let-go t $ fsplit t $ let-go t $ fsplit t $ let-go t $ fsplit t $ let-go t $ fsplit t $ fsplit t $ move t (1 ∷ []) $ feqL t (λ len-w. move t (1 ∷ []) $ fsplit t $ fsplit t $ move t (1 ∷ []) $ feqL t (λ len-y. move t (1 ∷ []) $ fsplit t $ fsplit t $ move t (1 ∷ []) $ feqL t (λ len-z. move t (1 ∷ []) $ let-go t $ move t (3 ∷ []) $ split t $ move t (1 ∷ []) $ facts t Peelingᴿ.the-row (Is Peelingᴿ.the-row) (shows 𝓤 H A Peelingᴿ.the-row) res (v ∷ []) (λ is.
-      split t $ move t (1 ∷ []) $ split t $ move t (1 ∷ []) $ split t $ move t (1 ∷ []) $ split t $ move t (1 ∷ []) $ let-go t $ move t (9 ∷ []) $ let-go t $ move t (8 ∷ []) $ let-go t $ move t (7 ∷ []) $ let-go t $ move t (2 ∷ 9 ∷ 6 ∷ []) $ backs t tt u64 κw qw w s long-w room-w νw δw (zs .1 .1 .1 .1 .1 .1 .0) len-w $ move t (3 ∷ 8 ∷ 6 ∷ []) $ backs t tt u32 κy qy y d long-y room-y νy δy (zs .1 .1 .1 .1 .1 .1 .1 .0) len-y $ move t (4 ∷ 7 ∷ 6 ∷ []) $ backs t tt u8 κz qz z b long-z room-z νz δz (zs .1 .1 .1 .1 .1 .1 .1 .1 .0) len-z $ move t (7 ∷ 6 ∷ 4 ∷ 5 ∷ 2 ∷ 3 ∷ 0 ∷ 1 ∷ []) $
-      regoal t (λ (u : Val). lands C Λ E dst u rest p) (ap only (LL.tells Peelingᴿ.the-type Peelingᴸ.the-laws res _ is)) refl $ k res (zs .1 .1 .1 .1 .1 .1 .0) (zs .1 .1 .1 .1 .1 .1 .1 .0) (zs .1 .1 .1 .1 .1 .1 .1 .1 .0) said len-w len-y len-z (subst (Is Peelingᴿ.the-row res) (LL.tells Peelingᴿ.the-type Peelingᴸ.the-laws res _ is) is))))))))))))
+  calls-enter t fm at-mem run known κx qx x high n n-fits m m-fits g g-is κw qw w s long-w room-w κy qy y d long-y room-y κz qz z b long-z room-z required os k =
+      use1 W (‵ (Shr Edgeᴿ.the-row κx x) ⊛ ‵ (Shr Edgeᴿ.the-row κx x)) (shr-slice-copy 𝓤 H A W (named 0) κx Edgeᴿ.the-row .twice x (val x ∷ [])) $ split t $ move t (3 ∷ 4 ∷ []) $ lends t tt u64 κw qw w s long-w (λ νw δw. move t (6 ∷ 7 ∷ []) $ lends t tt u32 κy qy y d long-y (λ νy δy. move t (9 ∷ 10 ∷ []) $ lends t tt u8 κz qz z b long-z (λ νz δz. move t (3 ∷ 0 ∷ []) $ join t $ move t (5 ∷ 0 ∷ []) $ join t $ move t (9 ∷ 0 ∷ []) $ join t $ move t (3 ∷ 1 ∷ []) $ join t $ move t (4 ∷ 0 ∷ []) $ join t $ move t (6 ∷ 0 ∷ []) $ join t $ use2 W (raw (Enterᶜ 𝓤 H A at-mem run .pre (to-enter 𝓤 H A at-mem run κx qx x high n m g νw δw w s νy δy y d νz δz z b))) (goes νw δw νy δy νz δz) $ nothing t $ nothing t $ nothing t $ move t (3 ∷ []) $
+      calls-at t fm (Enterᶜ 𝓤 H A at-mem run) known (to-enter 𝓤 H A at-mem run κx qx x high n m g νw δw w s νy δy y d νz δz z b) (os νw δw νy δy νz δz) (λ v.
+      use1 W (later (some (λ (res : Peeling). ((‵ (flft κx qx) ⊛ ‵ (flft (νw ∷ []) fullShare) ⊛ ‵ (flft (νy ∷ []) fullShare) ⊛ ‵ (flft (νz ∷ []) fullShare) ⊛ ‵ ftrue) ⊛ ‵ (Peelingᴿ.the-row .own res (v ∷ []))) ⊛ raw (ensured 𝓤 H A enter.ended (enter.clauses 𝓤 H A at-mem run) (κx, (νw ∷ [], (νy ∷ [], (νz ∷ [], tt)))) (x, (high, (n, (m, (g, (at w δw s, (at y δy d, (at z δz b, tt)))))))) tt res)))) (id⊢ 𝓤 _) $ await t tt $ pick t (λ res. split t $ move t (1 ∷ []) $
+      use1 W (some (λ (zs : (Unit {0} × (Unit {0} × (Unit {0} × (Unit {0} × (Unit {0} × (List ℕ × (List ℕ × (List ℕ × Unit {0}))))))))). ‵ (lasts enter.ended (κx, (νw ∷ [], (νy ∷ [], (νz ∷ [], tt)))) (x, (high, (n, (m, (g, (at w δw s, (at y δy d, (at z δz b, tt)))))))) zs) ⊛ raw (fact 𝓤 (Leaves (peelingCall high n (now x) s d b) res (zs .1 .1 .1 .1 .1 .0) (zs .1 .1 .1 .1 .1 .1 .0) (zs .1 .1 .1 .1 .1 .1 .1 .0))))) (id⊢ 𝓤 _) $ pick t (λ zs. split t $ move t (1 ∷ []) $ heard t (Leaves (peelingCall high n (now x) s d b) res (zs .1 .1 .1 .1 .1 .0) (zs .1 .1 .1 .1 .1 .1 .0) (zs .1 .1 .1 .1 .1 .1 .1 .0)) (λ said.
+      fsplit t $ let-go t $ fsplit t $ let-go t $ fsplit t $ let-go t $ fsplit t $ let-go t $ fsplit t $ let-go t $ fsplit t $ fsplit t $ move t (1 ∷ []) $ feqL t (λ len-w. move t (1 ∷ []) $ fsplit t $ fsplit t $ move t (1 ∷ []) $ feqL t (λ len-y. move t (1 ∷ []) $ fsplit t $ fsplit t $ move t (1 ∷ []) $ feqL t (λ len-z. move t (1 ∷ []) $ let-go t $ move t (3 ∷ []) $ split t $ move t (1 ∷ []) $ facts t Peelingᴿ.the-row (Is Peelingᴿ.the-row) (shows 𝓤 H A Peelingᴿ.the-row) res (v ∷ []) (λ is.
+      split t $ move t (1 ∷ []) $ split t $ move t (1 ∷ []) $ split t $ move t (1 ∷ []) $ split t $ move t (1 ∷ []) $ let-go t $ move t (9 ∷ []) $ let-go t $ move t (8 ∷ []) $ let-go t $ move t (7 ∷ []) $ let-go t $ move t (2 ∷ 9 ∷ 6 ∷ []) $ backs t tt u64 κw qw w s long-w room-w νw δw (zs .1 .1 .1 .1 .1 .0) len-w $ move t (3 ∷ 8 ∷ 6 ∷ []) $ backs t tt u32 κy qy y d long-y room-y νy δy (zs .1 .1 .1 .1 .1 .1 .0) len-y $ move t (4 ∷ 7 ∷ 6 ∷ []) $ backs t tt u8 κz qz z b long-z room-z νz δz (zs .1 .1 .1 .1 .1 .1 .1 .0) len-z $ move t (7 ∷ 6 ∷ 4 ∷ 5 ∷ 2 ∷ 3 ∷ 0 ∷ 1 ∷ []) $
+      regoal t (λ (u : Val). lands C Λ E dst u rest p) (ap only (LL.tells Peelingᴿ.the-type Peelingᴸ.the-laws res _ is)) refl $ k res (zs .1 .1 .1 .1 .1 .0) (zs .1 .1 .1 .1 .1 .1 .0) (zs .1 .1 .1 .1 .1 .1 .1 .0) said len-w len-y len-z (subst (Is Peelingᴿ.the-row res) (LL.tells Peelingᴿ.the-type Peelingᴸ.the-laws res _ is) is))))))))))))
     where
-      goes : (νw : ℕ) (δw : GName) (νy : ℕ) (δy : GName) (νz : ℕ) (δz : GName) → ent 𝓤 (⋆ 𝓤 H A ((‵ (Shr Edgeᴿ.the-row κx x) ⊛ ‵ (LentFor u64 νw δw w s) ⊛ ‵ (LentFor u32 νy δy y d) ⊛ ‵ (LentFor u8 νz δz z b)) ∷ (‵ (flft κx qx) ⊛ ‵ (flft (νw ∷ []) fullShare) ⊛ ‵ (flft (νy ∷ []) fullShare) ⊛ ‵ (flft (νz ∷ []) fullShare)) ∷ [])) (Enterᶜ 𝓤 H A at-mem run .pre (to-enter 𝓤 H A at-mem run κx qx x high n m bad o νw δw w s νy δy y d νz δz z b))
-      goes νw δw νy δy νz δz = qed W ((‵ (Shr Edgeᴿ.the-row κx x) ⊛ ‵ (LentFor u64 νw δw w s) ⊛ ‵ (LentFor u32 νy δy y d) ⊛ ‵ (LentFor u8 νz δz z b)) ∷ (‵ (flft κx qx) ⊛ ‵ (flft (νw ∷ []) fullShare) ⊛ ‵ (flft (νy ∷ []) fullShare) ⊛ ‵ (flft (νz ∷ []) fullShare)) ∷ []) ∵ says ! required $ split ! $ move ! (1 ∷ []) $ split ! $ move ! (1 ∷ []) $ split ! $ move ! (4 ∷ []) $ split ! $ move ! (1 ∷ []) $ split ! $ move ! (1 ∷ []) $ split ! $ nothing ! $ move ! (2 ∷ 0 ∷ []) $ join ! $ move ! (1 ∷ 0 ∷ []) $ join ! $ move ! (1 ∷ 0 ∷ []) $ join ! $ move ! (1 ∷ 0 ∷ []) $ join ! $ nothing ! $ move ! (3 ∷ 0 ∷ []) $ fjoin ! $ move ! (2 ∷ 0 ∷ []) $ fjoin ! $ move ! (2 ∷ 0 ∷ []) $ fjoin ! $ owned ! bool (Is bool) (bool-makes 𝓤 H A W) o _ refl $ fjoin ! $ owned ! (UInt w64) (Is (UInt w64)) (uint-makes 𝓤 H A W w64) bad _ (refl, bad-fits) $ fjoin ! $ owned ! (UInt w64) (Is (UInt w64)) (uint-makes 𝓤 H A W w64) m _ (refl, m-fits) $ fjoin ! $ owned ! (UInt w64) (Is (UInt w64)) (uint-makes 𝓤 H A W w64) n _ (refl, n-fits) $ fjoin ! $ owned ! bool (Is bool) (bool-makes 𝓤 H A W) high _ refl $ fjoin ! $ move ! (2 ∷ 0 ∷ []) $ fjoin ! $ move ! (1 ∷ 0 ∷ []) $ frame ! $ done !
+      goes : (νw : ℕ) (δw : GName) (νy : ℕ) (δy : GName) (νz : ℕ) (δz : GName) → ent 𝓤 (⋆ 𝓤 H A ((‵ (Shr Edgeᴿ.the-row κx x) ⊛ ‵ (LentFor u64 νw δw w s) ⊛ ‵ (LentFor u32 νy δy y d) ⊛ ‵ (LentFor u8 νz δz z b)) ∷ (‵ (flft κx qx) ⊛ ‵ (flft (νw ∷ []) fullShare) ⊛ ‵ (flft (νy ∷ []) fullShare) ⊛ ‵ (flft (νz ∷ []) fullShare)) ∷ [])) (Enterᶜ 𝓤 H A at-mem run .pre (to-enter 𝓤 H A at-mem run κx qx x high n m g νw δw w s νy δy y d νz δz z b))
+      goes νw δw νy δy νz δz = qed W ((‵ (Shr Edgeᴿ.the-row κx x) ⊛ ‵ (LentFor u64 νw δw w s) ⊛ ‵ (LentFor u32 νy δy y d) ⊛ ‵ (LentFor u8 νz δz z b)) ∷ (‵ (flft κx qx) ⊛ ‵ (flft (νw ∷ []) fullShare) ⊛ ‵ (flft (νy ∷ []) fullShare) ⊛ ‵ (flft (νz ∷ []) fullShare)) ∷ []) ∵ says ! required $ split ! $ move ! (1 ∷ []) $ split ! $ move ! (1 ∷ []) $ split ! $ move ! (4 ∷ []) $ split ! $ move ! (1 ∷ []) $ split ! $ move ! (1 ∷ []) $ split ! $ nothing ! $ move ! (2 ∷ 0 ∷ []) $ join ! $ move ! (1 ∷ 0 ∷ []) $ join ! $ move ! (1 ∷ 0 ∷ []) $ join ! $ move ! (1 ∷ 0 ∷ []) $ join ! $ nothing ! $ move ! (3 ∷ 0 ∷ []) $ fjoin ! $ move ! (2 ∷ 0 ∷ []) $ fjoin ! $ move ! (2 ∷ 0 ∷ []) $ fjoin ! $ owned ! Gateᴿ.the-row (Is Gateᴿ.the-row) (LL.makes Gateᴿ.the-type Gateᴸ.the-plain 𝓤 H A) g _ g-is $ fjoin ! $ owned ! (UInt w64) (Is (UInt w64)) (uint-makes 𝓤 H A W w64) m _ (refl, m-fits) $ fjoin ! $ owned ! (UInt w64) (Is (UInt w64)) (uint-makes 𝓤 H A W w64) n _ (refl, n-fits) $ fjoin ! $ owned ! bool (Is bool) (bool-makes 𝓤 H A W) high _ refl $ fjoin ! $ move ! (2 ∷ 0 ∷ []) $ fjoin ! $ move ! (1 ∷ 0 ∷ []) $ frame ! $ done !

@@ -7,14 +7,14 @@ use lib.ListN.{length}
 use Rattle.peeling.specs.declared.numbers.Edge.{Edge}
 use Rattle.peel_rules.specs.Edges.{badEdge}
 use Rattle.peel_rules.specs.Calls.{PeelCall, peelCall}
+use Rattle.peel_gates.specs.declared.rules.Gate.{Gate}
 use Rattle.peel_gates.specs.Rooms.{numbersRoom, bytesRoom}
 use Rattle.peel_gates.specs.Gates.{gateOf}
 
--- the edges are counted and checked, and it is known whether the call is refused
-pub record Judged (high : Bool) (n m bad : ℕ) (opened : Bool) (T : List Edge) (cells numbers bytes : List ℕ) : Type 0 where
+-- the edges are counted, and the gate is judged
+pub record Judged (high : Bool) (n m : ℕ) (g : Gate) (T : List Edge) (cells numbers bytes : List ℕ) : Type 0 where
   pub all : m ≡ length T
-  pub lowest : bad ≡ badEdge n T
-  pub gate : opened ≡ gateOf high n m bad (length cells) (length numbers) (length bytes) .opened
+  pub gate : g ≡ gateOf high n (length T) (badEdge n T) (length cells) (length numbers) (length bytes)
 
 -- the call of the peeler that is named by what it keeps
 unfoldable pub peelingCall : Bool → ℕ → List Edge → List ℕ → List ℕ → List ℕ → PeelCall

@@ -1,9 +1,9 @@
 // The peelers and lookup under plain names, for programs in C or Rust: a slice is a pointer and a length.
 // A lent edge is a C struct of 24 bytes: three 32-bit vertices at 0, 4 and 8, a 64-bit value at 16. The language promises it of `#[repr(C)]`.
+use lookups::reading::lookup;
 use peel_gates::ends::Peeling;
 use peelers::calls::peel_by_sig_vals_high_mem;
 use peelers::calls::peel_by_sig_vals_low_mem;
-use peelers::reading::lookup;
 use peeling::numbers::Edge;
 use peeling::numbers::Vertex;
 ghost use mathlib.Core.Path.{_≡_};
@@ -63,7 +63,7 @@ pub extern "C" fn orohkaril_peel_low(
     tell(peel_by_sig_vals_low_mem(n, edges, solution, numbers, bytes))
 }
 
-// `peelers::reading::lookup`; bib and place are written through.
+// `lookups::reading::lookup`; bib and place are written through.
 #[no_mangle]
 pub extern "C" fn orohkaril_lookup(
     table: &[u64],

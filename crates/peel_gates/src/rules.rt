@@ -41,37 +41,8 @@ fn shut(answer: Answer) -> Gate
     }
 }
 
-// Whether the run may begin, with none of the refusals 1, 3, 4 and 5: `cells`, `numbers` and `bytes` are the lengths that are lent, `bad` is the lowest edge that breaks its rule, m where there is none.
-pub fn opens(
-    high: bool,
-    n: usize,
-    m: usize,
-    bad: usize,
-    cells: usize,
-    numbers: usize,
-    bytes: usize,
-) -> bool
-    ensures { λ r. ⌜ r ≡ gateOf high n m bad cells numbers bytes .opened ⌝ }
-{
-    judge(high, n, m, bad, cells, numbers, bytes).opened
-}
-
-// What is answered where it may not.
-pub fn refusal(
-    high: bool,
-    n: usize,
-    m: usize,
-    bad: usize,
-    cells: usize,
-    numbers: usize,
-    bytes: usize,
-) -> Peeling
-    ensures { λ r. ⌜ r ≡ gateOf high n m bad cells numbers bytes .refusal ⌝ }
-{
-    judge(high, n, m, bad, cells, numbers, bytes).refusal
-}
-
-fn judge(
+// Tries the refusals 1, 3, 4 and 5: `cells`, `numbers` and `bytes` are the lengths that are lent, `bad` is the lowest edge that breaks its rule, m where there is none.
+pub fn judge(
     high: bool,
     n: usize,
     m: usize,

@@ -32,7 +32,7 @@ use Rattle.peel_gates.specs.Ends.{endOf}
 use Rattle.peel_turns.proofs.PictureLaws.{set-in, in-graph, drop-agrees}
 use Rattle.peel_gates.proofs.RoomLaws.{zeroed-cleared}
 use Rattle.peel_walks.specs.Walks.{Begins, PeelStarts, PeelEnds, Fillable}
-use Rattle.peel_parts.specs.Parts.{Built, PeelAsks, FillAsks, cellsAfter, SettleAsks, Says, ranSays, GraphAsks, Past}
+use Rattle.peel_parts.specs.Parts.{Built, PeelAsks, FillAsks, cellsAfter, SettleAsks, Says, ranSays, Admitted, GraphAsks, Past}
 
 -- ---- the graph lies in the first n cells of both areas
 
@@ -172,9 +172,6 @@ all-filled high n T m count cells numbers bytes x x′ h e f = simp (le-ltb coun
 -- ---- the end
 
 module _ {high : Bool} {n m count : ℕ} {T : List Edge} {cells numbers bytes : List ℕ} (a : SettleAsks high n m T count cells numbers bytes) where
-  pub settle-fills : FillAsks high n T count cells numbers bytes
-  settle-fills = record { fillable = a .fillable; size = a .size }
-
   k : Ends n T
   k = peel-ends n T (a .valid)
 
@@ -196,7 +193,7 @@ module _ {high : Bool} {n m count : ℕ} {T : List Edge} {cells numbers bytes : 
 
   zeros : zeroed 0 n cells ≡ replicate n 0
   unfolding cleared
-  zeros = zeroed-cleared {k = n} cells refl ∙ ap (λ (l : List ℕ). replicate n 0 ++ l) (subst (λ (j : ℕ). drop j cells ≡ []) (a .size) (drop-length cells)) ∙ append-nil (replicate n 0)
+  zeros = zeroed-cleared {k = n} cells refl ∙ ap (λ (l : List ℕ). replicate n 0 ++ l) (subst (λ (j : ℕ). drop j cells ≡ []) (a .fills .size) (drop-length cells)) ∙ append-nil (replicate n 0)
 
   pub settled : {r : Peeling} {x : List ℕ} → x ≡ cellsAfter high n T m count cells numbers bytes → r ≡ endOf m count → Says (ranSays high n T cells) r x
   unfolding answer ranSays cellsAfter
@@ -215,12 +212,15 @@ module _ {high : Bool} {n m count : ℕ} {T : List Edge} {cells numbers bytes : 
 -- ---- the peeling and the filling, one after the other
 
 module _ {high : Bool} {n m : ℕ} {T : List Edge} {cells numbers bytes : List ℕ} (a : GraphAsks high n m T cells numbers bytes) where
+  abbrev call : Admitted high n m T cells numbers bytes
+  call = a .admitted
+
   pub peel-asks : PeelAsks high n T numbers bytes
-  peel-asks = record { lent = subst (λ (j : ℕ). Lent high n j numbers bytes) (a .all) (a .lent); valid = a .valid; uncrowded = a .uncrowded; graph = a .graph }
+  peel-asks = record { lent = subst (λ (j : ℕ). Lent high n j numbers bytes) (call .all) (call .lent); valid = call .valid; uncrowded = a .uncrowded; graph = a .graph }
 
   module _ {d b : List ℕ} {count : ℕ} (e : PeelEnds high n T numbers bytes d b count) where
     pub settle-asks : SettleAsks high n m T count cells d b
-    settle-asks = record { small = a .lent .m-small; all = a .all; valid = a .valid; size = a .size; peeled = e .peeled; counts = e .counts; fillable = e .fillable }
+    settle-asks = record { small = call .lent .m-small; all = call .all; valid = call .valid; fills = record { fillable = e .fillable; size = call .size }; peeled = e .peeled; counts = e .counts }
 
     pub past-peeling : Past high n m numbers bytes d b
-    past-peeling = subst (λ (j : ℕ). Past high n j numbers bytes d b) (sym (a .all)) (record { long = e .long; long-b = e .long-b; rest = e .rest; rest-b = e .rest-b })
+    past-peeling = subst (λ (j : ℕ). Past high n j numbers bytes d b) (sym (call .all)) (record { long = e .long; long-b = e .long-b; rest = e .rest; rest-b = e .rest-b })

@@ -49,10 +49,9 @@ pub record SettleAsks (high : Bool) (n m : ℕ) (T : List Edge) (count : ℕ) (c
   pub small : m ≤ maxEquations
   pub all : m ≡ length T
   pub valid : Each (Valid n) T
-  pub size : length cells ≡ n
+  pub fills : FillAsks high n T count cells numbers bytes
   pub peeled : peeledIn high T n count numbers bytes ≡ peel n T .peeled
   pub counts : count ≡ length (peel n T .peeled)
-  pub fillable : Fillable high n T count n numbers bytes
 
 -- the answer and the solution are as the definition of the call says
 pub record Says (c : PeelCall) (r : Peeling) (solution : List ℕ) : Type 0 where
@@ -64,12 +63,16 @@ pub record Says (c : PeelCall) (r : Peeling) (solution : List ℕ) : Type 0 wher
 unfoldable pub ranSays : Bool → ℕ → List Edge → List ℕ → PeelCall
 ranSays high n T cells = ran (numbersRoom high n (length T)) (bytesRoom high n (length T)) (length T) (answer n T) cells [] []
 
--- no vertex lies on a crowd of edges
-pub record GraphAsks (high : Bool) (n m : ℕ) (T : List Edge) (cells numbers bytes : List ℕ) : Type 0 where
+-- the call was not refused before the run
+pub record Admitted (high : Bool) (n m : ℕ) (T : List Edge) (cells numbers bytes : List ℕ) : Type 0 where
   pub lent : Lent high n m numbers bytes
   pub all : m ≡ length T
   pub valid : Each (Valid n) T
   pub size : length cells ≡ n
+
+-- the graph is made, and no vertex lies on a crowd of edges
+pub record GraphAsks (high : Bool) (n m : ℕ) (T : List Edge) (cells numbers bytes : List ℕ) : Type 0 where
+  pub admitted : Admitted high n m T cells numbers bytes
   pub uncrowded : crowdedVertex n T ≡ n
   pub graph : graphIn n numbers bytes ≡ build 0 T (empty n)
 

@@ -20,8 +20,8 @@ use Rattle.peel_gates.specs.Rooms.{numbersRoom, bytesRoom}
 use Rattle.peel_gates.specs.Rooms.{Lent, Left}
 use Rattle.peel_turns.proofs.PictureLaws.{drop-agrees}
 use Rattle.peel_walks.specs.Walks.{Begins}
-use Rattle.peel_parts.specs.Parts.{Built, Says, ranSays, GraphAsks, Past}
-use Rattle.peel_runs.specs.Runs.{BuiltAsks, Admitted, Leaves, runSays, runCall}
+use Rattle.peel_parts.specs.Parts.{Built, Says, ranSays, Admitted, GraphAsks, Past}
+use Rattle.peel_runs.specs.Runs.{BuiltAsks, Leaves, runSays, runCall}
 use Rattle.peel_parts.proofs.PartLaws.{room-least, lent-on}
 
 -- the room is zero where what lies behind it is as it was lent
@@ -50,7 +50,7 @@ module _ {high : Bool} {n m low : ℕ} {T : List Edge} {cells numbers bytes : Li
     uncrowded = omega (arith, a .crowd, h, crowded-lowest n T .within)
 
     pub graph-asks : GraphAsks high n m T cells numbers bytes
-    graph-asks = record { lent = a .lent; all = a .all; valid = a .valid; size = a .size; uncrowded = uncrowded; graph = a .graph }
+    graph-asks = record { admitted = a .admitted; uncrowded = uncrowded; graph = a .graph }
 
     pub ran-on : {r : Peeling} {x : List ℕ} → Says (ranSays high n T cells) r x → Says (runSays high n T cells) r x
     unfolding ranSays runSays
@@ -67,7 +67,7 @@ module _ {high : Bool} {n m : ℕ} {T : List Edge} {cells numbers bytes : List �
 
   module _ {d b : List ℕ} {low : ℕ} (g : Built n T numbers bytes d b low) where
     pub built-asks : BuiltAsks high n m low T cells d b
-    built-asks = record { lent = lent-on (a .lent) (g .long) (g .long-b); all = a .all; valid = a .valid; size = a .cells; graph = g .graph; crowd = g .crowd }
+    built-asks = record { admitted = record { lent = lent-on (a .lent) (g .long) (g .long-b); all = a .all; valid = a .valid; size = a .size }; graph = g .graph; crowd = g .crowd }
 
     pub past-building : Past high n m numbers bytes d b
     past-building = record {

@@ -8,8 +8,8 @@ use Rattle.answers.specs.declared.Answer.the-variants.{CrowdedVertex}
 use Rattle.peel_rules.specs.Report.{noReport}
 use Rattle.peel_gates.specs.Rooms.{Lent, Left}
 use Rattle.peel_walks.specs.Walks.{Begins}
-use Rattle.peel_runs.specs.Runs.{Admitted, BuiltAsks, runSays}
-use Rattle.peel_parts.specs.Parts.{GraphAsks, Past, Built, Says, ranSays}
+use Rattle.peel_runs.specs.Runs.{BuiltAsks, runSays}
+use Rattle.peel_parts.specs.Parts.{Admitted, GraphAsks, Past, Built, Says, ranSays}
 use Rattle.peeling.specs.declared.numbers.Edge.{Edge}
 use Rattle.peeling.proofs.numbers.Edge as Edgeᴿ
 use Rattle.walk_rules.proofs.Lent.{val, at, Shr, Mut, Lent as LentFor, Kept, lends, backs}

@@ -4,32 +4,20 @@ use mathlib.Core.List.{List, []}
 use mathlib.Core.Bool.{Bool}
 use Prim.Native.Nat.{ℕ}
 use lib.ListN.{length}
-use Rattle.gf2.specs.Equation.{Each}
 use Rattle.peeling.specs.declared.numbers.Edge.{Edge}
-use Rattle.peel_rules.specs.Edges.{Valid}
 use Rattle.peel_rules.specs.Peel.{answer, crowdedVertex}
 use Rattle.peel_rules.specs.Machine.{build, empty}
 use Rattle.peel_rules.specs.Calls.{PeelCall, admitted}
 use Rattle.peel_gates.specs.declared.ends.Peeling.{Peeling}
 use Rattle.peel_steps.specs.Pictures.{graphIn}
 use Rattle.peel_gates.specs.Rooms.{numbersRoom, bytesRoom}
-use Rattle.peel_gates.specs.Rooms.{Lent}
+use Rattle.peel_parts.specs.Parts.{Admitted}
 
 -- the graph is made, and the lowest vertex that lies on a crowd of edges is known
 pub record BuiltAsks (high : Bool) (n m low : ℕ) (T : List Edge) (cells numbers bytes : List ℕ) : Type 0 where
-  pub lent : Lent high n m numbers bytes
-  pub all : m ≡ length T
-  pub valid : Each (Valid n) T
-  pub size : length cells ≡ n
+  pub admitted : Admitted high n m T cells numbers bytes
   pub graph : graphIn n numbers bytes ≡ build 0 T (empty n)
   pub crowd : low ≡ crowdedVertex n T
-
--- the call was not refused before the run
-pub record Admitted (high : Bool) (n m : ℕ) (T : List Edge) (solution numbers bytes : List ℕ) : Type 0 where
-  pub lent : Lent high n m numbers bytes
-  pub all : m ≡ length T
-  pub valid : Each (Valid n) T
-  pub cells : length solution ≡ n
 
 -- the answer and every lent cell are as the definition of the call says
 pub record Leaves (c : PeelCall) (r : Peeling) (solution numbers bytes : List ℕ) : Type 0 where

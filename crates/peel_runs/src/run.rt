@@ -1,6 +1,6 @@
 // The run over a table whose edges keep their rule.
-ghost use Rattle.peel_runs.specs.Runs.{BuiltAsks, Admitted, Leaves, runSays, runCall};
-ghost use Rattle.peel_parts.specs.Parts.{Past, Says};
+ghost use Rattle.peel_runs.specs.Runs.{BuiltAsks, Leaves, runSays, runCall};
+ghost use Rattle.peel_parts.specs.Parts.{Admitted, Past, Says};
 use peel_gates::ends::Peeling;
 use peel_gates::ends::crowded;
 use peel_gates::rooms::clear_room;

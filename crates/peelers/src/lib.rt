@@ -1,4 +1,3 @@
-// The two signature peelers over a lent table of edges, and lookup.
+// The two signature peelers over a lent table of edges.
 pub mod calls; // the peelers
-pub mod reading; // the bib of a transponder
 pub mod programs; // the peelers for programs

@@ -2,7 +2,7 @@
 use mathlib.Core.Path.{_≡_, ap, _∙_}
 use borrow.Author.Needs.{needs}
 use Rattle.answers.specs.Numbers.{numberOf, placeOf}
-use Rattle.peelers.specs.declared.reading.Found.{Found}
+use Rattle.lookups.specs.declared.reading.Found.{Found}
 use Rattle.peel_exports.proofs.orohkaril_lookup.Statement.{statement}
 use Rattle.peel_exports.proofs.orohkaril_lookup.Tie as tie
 

@@ -8,13 +8,14 @@ use Rattle.peeling.proofs.numbers.Edge as Edgeᴿ
 use Rattle.peel_gates.specs.declared.ends.Peeling.{Peeling}
 use Rattle.peel_gates.proofs.ends.Peeling as Peelingᴿ
 use Rattle.peel_gates.proofs.ends.Peeling.Laws as Peelingᴸ
+use Rattle.peel_gates.specs.declared.rules.Gate.{Gate}
+use Rattle.peel_gates.proofs.rules.Gate as Gateᴿ
+use Rattle.peel_gates.proofs.rules.Gate.Laws as Gateᴸ
 use Rattle.walk_rules.proofs.Loops.{forks, is-true, is-false}
 use Rattle.walk_rules.proofs.Lent.{val, Shr, Mut}
-use Rattle.peel_calls.proofs.CallRules.{RunPeelerᶜ, calls-run-peeler, Refusalᶜ, calls-refusal}
+use Rattle.peel_calls.proofs.CallRules.{RunPeelerᶜ, calls-run-peeler}
 use Rattle.peel_runs.proofs.run.run_peeler.Symbol as run-peeler-def
 use Rattle.peel_runs.proofs.run.run_peeler.Met as run-peeler-thm
-use Rattle.peel_gates.proofs.rules.refusal.Symbol as refusal-def
-use Rattle.peel_gates.proofs.rules.refusal.Met as refusal-thm
 use Rattle.peel_calls.proofs.call.enter.Key.{name as #self}
 use Rattle.peel_calls.proofs.call.enter as self
 use Rattle.peel_calls.proofs.call.enter.Statement as stated
@@ -24,66 +25,61 @@ use Rattle.peel_runs.specs.Runs.{Leaves}
 use Rattle.peel_calls.proofs.CallLaws.{run-asks, run-leaves, refusal-leaves}
 
 abbrev stayed : Stays (self.ended .signature .params) (self.ended .kept)
-stayed = (stay-none-slice (0 ∷ []) tt (plain (λ _. Edgeᴿ.the-row)) yes, (stay-dropped (plain (λ _. bool)) yes, (stay-dropped (plain (λ _. usize)) yes, (stay-dropped (plain (λ _. usize)) yes, (stay-dropped (plain (λ _. usize)) yes, (stay-dropped (plain (λ _. bool)) yes, (stay-slice (1 ∷ []) tt (plain (λ _. u64)), (stay-slice (2 ∷ []) tt (plain (λ _. u32)), (stay-slice (3 ∷ []) tt (plain (λ _. u8)), tt)))))))))
+stayed = (stay-none-slice (0 ∷ []) tt (plain (λ _. Edgeᴿ.the-row)) yes, (stay-dropped (plain (λ _. bool)) yes, (stay-dropped (plain (λ _. usize)) yes, (stay-dropped (plain (λ _. usize)) yes, (stay-dropped (plain (λ _. Gateᴿ.the-row)) yes, (stay-slice (1 ∷ []) tt (plain (λ _. u64)), (stay-slice (2 ∷ []) tt (plain (λ _. u32)), (stay-slice (3 ∷ []) tt (plain (λ _. u8)), tt))))))))
 
-module _ {M : Type 1} (𝓤 : URA M) (H : Heap 𝓤) (A : Atoms 𝓤) (W : Given 𝓤 H A) (at-mem : Memory → SProp 𝓤) (run : Routine → Fun 𝓤) (κx κw κy κz : Lft) (qx qw qy qz : Share) (x : RefT (List Edge)) (high : Bool) (n : ℕ) (m : ℕ) (bad : ℕ) (allowed : Bool) (w : RefT (List ℕ)) (y : RefT (List ℕ)) (z : RefT (List ℕ))
-    (x-room : Room Edgeᴿ.the-row (length (now x))) (n-fits : n < 2 ^ 64) (m-fits : m < 2 ^ 64) (bad-fits : bad < 2 ^ 64) (w-room : Room u64 (length (now w))) (y-room : Room u32 (length (now y))) (z-room : Room u8 (length (now z))) where
+module _ {M : Type 1} (𝓤 : URA M) (H : Heap 𝓤) (A : Atoms 𝓤) (W : Given 𝓤 H A) (at-mem : Memory → SProp 𝓤) (run : Routine → Fun 𝓤) (κx κw κy κz : Lft) (qx qw qy qz : Share) (x : RefT (List Edge)) (high : Bool) (n : ℕ) (m : ℕ) (g : Gate) (w : RefT (List ℕ)) (y : RefT (List ℕ)) (z : RefT (List ℕ))
+    (x-room : Room Edgeᴿ.the-row (length (now x))) (n-fits : n < 2 ^ 64) (m-fits : m < 2 ^ 64) (g-is : Is Gateᴿ.the-row g (LL.vals Gateᴿ.the-type Gateᴸ.the-laws g)) (w-room : Room u64 (length (now w))) (y-room : Room u32 (length (now y))) (z-room : Room u8 (length (now z))) where
   abbrev vals : Vals self.signature (κx, (κw, (κy, (κz, tt))))
-  vals = (val x ∷ [], (vbool (high) ∷ [], (vint w64 (n) ∷ [], (vint w64 (m) ∷ [], (vint w64 (bad) ∷ [], (vbool (allowed) ∷ [], (val w ∷ [], (val y ∷ [], (val z ∷ [], tt)))))))))
+  vals = (val x ∷ [], (vbool (high) ∷ [], (vint w64 (n) ∷ [], (vint w64 (m) ∷ [], (LL.vals Gateᴿ.the-type Gateᴸ.the-laws g, (val w ∷ [], (val y ∷ [], (val z ∷ [], tt))))))))
 
   abbrev bound : walkOf 𝓤 H A self.ended stayed (self.clauses 𝓤 H A at-mem run) .Ghost
-  bound = (((κx, (κw, (κy, (κz, tt)))), (qx, (qw, (qy, (qz, tt)))), tt, (x, (high, (n, (m, (bad, (allowed, (w, (y, (z, tt))))))))), vals), tt)
+  bound = (((κx, (κw, (κy, (κz, tt)))), (qx, (qw, (qy, (qz, tt)))), tt, (x, (high, (n, (m, (g, (w, (y, (z, tt)))))))), vals), tt)
 
   abbrev Post : Val → SProp 𝓤
   Post = walkOf 𝓤 H A self.ended stayed (self.clauses 𝓤 H A at-mem run) .post bound
 
   exits : (res : Peeling) (zw : List ℕ) (zy : List ℕ) (zz : List ℕ) → (Leaves (peelingCall high n (now x) (now w) (now y) (now z)) res zw zy zz) → length zw ≡ length (now w) → length zy ≡ length (now y) → length zz ≡ length (now z) → Is Peelingᴿ.the-row res (LL.vals Peelingᴿ.the-type Peelingᴸ.the-laws res) → ent 𝓤 (⋆ 𝓤 H A (‵ (Shr Edgeᴿ.the-row κx x) ∷ ‵ (flft κx qx) ∷ ‵ (Mut u64 κw w zw) ∷ ‵ (flft κw qw) ∷ ‵ (Mut u32 κy y zy) ∷ ‵ (flft κy qy) ∷ ‵ (Mut u8 κz z zz) ∷ ‵ (flft κz qz) ∷ [])) (Post (only (LL.vals Peelingᴿ.the-type Peelingᴸ.the-laws res)))
   exits res zw zy zz e lw ly lz is =
-      qed W (‵ (Shr Edgeᴿ.the-row κx x) ∷ ‵ (flft κx qx) ∷ ‵ (Mut u64 κw w zw) ∷ ‵ (flft κw qw) ∷ ‵ (Mut u32 κy y zy) ∷ ‵ (flft κy qy) ∷ ‵ (Mut u8 κz z zz) ∷ ‵ (flft κz qz) ∷ []) ∵ suffices ! _ (ends-at 𝓤 H A self.ended stayed (self.clauses 𝓤 H A at-mem run) W bound (only (LL.vals Peelingᴿ.the-type Peelingᴸ.the-laws res)) res (tt, (tt, (tt, (tt, (tt, (tt, (zw, (zy, (zz, tt))))))))) (tt, (tt, (tt, (tt, (tt, (tt, (lw, (ly, (lz, tt)))))))))) $ says ! e $
+      qed W (‵ (Shr Edgeᴿ.the-row κx x) ∷ ‵ (flft κx qx) ∷ ‵ (Mut u64 κw w zw) ∷ ‵ (flft κw qw) ∷ ‵ (Mut u32 κy y zy) ∷ ‵ (flft κy qy) ∷ ‵ (Mut u8 κz z zz) ∷ ‵ (flft κz qz) ∷ []) ∵ suffices ! _ (ends-at 𝓤 H A self.ended stayed (self.clauses 𝓤 H A at-mem run) W bound (only (LL.vals Peelingᴿ.the-type Peelingᴸ.the-laws res)) res (tt, (tt, (tt, (tt, (tt, (zw, (zy, (zz, tt)))))))) (tt, (tt, (tt, (tt, (tt, (lw, (ly, (lz, tt))))))))) $ says ! e $
       nothing ! $ move ! (8 ∷ 0 ∷ []) $ join ! $ move ! (6 ∷ 0 ∷ []) $ join ! $ move ! (4 ∷ 0 ∷ []) $ join ! $ move ! (2 ∷ 0 ∷ []) $ join ! $ frame ! $
-      nothing ! $ move ! (4 ∷ 0 ∷ []) $ fjoin ! $ move ! (3 ∷ 0 ∷ []) $ fjoin ! $ move ! (2 ∷ 0 ∷ []) $ fjoin ! $ nothing ! $ fjoin ! $ nothing ! $ fjoin ! $ nothing ! $ fjoin ! $ nothing ! $ fjoin ! $ nothing ! $ fjoin ! $ move ! (1 ∷ 0 ∷ []) $ fjoin ! $ frame ! $ owned ! Peelingᴿ.the-row (Is Peelingᴿ.the-row) (LL.makes Peelingᴿ.the-type Peelingᴸ.the-plain 𝓤 H A) res _ is $ done !
+      nothing ! $ move ! (4 ∷ 0 ∷ []) $ fjoin ! $ move ! (3 ∷ 0 ∷ []) $ fjoin ! $ move ! (2 ∷ 0 ∷ []) $ fjoin ! $ nothing ! $ fjoin ! $ nothing ! $ fjoin ! $ nothing ! $ fjoin ! $ nothing ! $ fjoin ! $ move ! (1 ∷ 0 ∷ []) $ fjoin ! $ frame ! $ owned ! Peelingᴿ.the-row (Is Peelingᴿ.the-row) (LL.makes Peelingᴿ.the-type Peelingᴸ.the-plain 𝓤 H A) res _ is $ done !
 
-  module _ (𝓣 : Tables 𝓤 H) (fm : FmC 𝓤 H (W .laws) (𝓣 .C)) (known-run-peeler : Triple 𝓤 (𝓣 .C run-peeler-def.name) (RunPeelerᶜ 𝓤 H A at-mem run)) (known-refusal : Triple 𝓤 (𝓣 .C refusal-def.name) (Refusalᶜ 𝓤 H A at-mem run)) where
-    walk : (Judged high n m bad allowed (now x) (now w) (now y) (now z)) → ent 𝓤 (onEntry 𝓤 H A self.signature (κx, (κw, (κy, (κz, tt)))) (qx, (qw, (qy, (qz, tt)))) (x, (high, (n, (m, (bad, (allowed, (w, (y, (z, tt))))))))) vals) (WpFn 𝓤 H (𝓣 .C) (𝓣 .Λ) code.function (val x ∷ vbool (high) ∷ vint w64 (n) ∷ vint w64 (m) ∷ vint w64 (bad) ∷ vbool (allowed) ∷ val w ∷ val y ∷ val z ∷ []) Post)
+  module _ (𝓣 : Tables 𝓤 H) (fm : FmC 𝓤 H (W .laws) (𝓣 .C)) (known-run-peeler : Triple 𝓤 (𝓣 .C run-peeler-def.name) (RunPeelerᶜ 𝓤 H A at-mem run)) where
+    walk : (Judged high n m g (now x) (now w) (now y) (now z)) → ent 𝓤 (onEntry 𝓤 H A self.signature (κx, (κw, (κy, (κz, tt)))) (qx, (qw, (qy, (qz, tt)))) (x, (high, (n, (m, (g, (w, (y, (z, tt)))))))) vals) (WpFn 𝓤 H (𝓣 .C) (𝓣 .Λ) code.function (val x ∷ vbool (high) ∷ vint w64 (n) ∷ vint w64 (m) ∷ only (LL.vals Gateᴿ.the-type Gateᴸ.the-laws g) ∷ val w ∷ val y ∷ val z ∷ []) Post)
     walk asked =
-        qed W ((‵ (flft κx qx) ⊛ ‵ (flft κw qw) ⊛ ‵ (flft κy qy) ⊛ ‵ (flft κz qz) ⊛ ‵ ftrue) ∷ ‵ (owns (ShrSlice (named 0) κx Edgeᴿ.the-row ∷ bool ∷ usize ∷ usize ∷ usize ∷ bool ∷ MutSlice (named 1) κw u64 ∷ MutSlice (named 2) κy u32 ∷ MutSlice (named 3) κz u8 ∷ []) (x, (high, (n, (m, (bad, (allowed, (w, (y, (z, tt))))))))) vals) ∷ []) ∵ enter ! (𝓣 .C) (𝓣 .Λ) code.function (val x ∷ vbool (high) ∷ vint w64 (n) ∷ vint w64 (m) ∷ vint w64 (bad) ∷ vbool (allowed) ∷ val w ∷ val y ∷ val z ∷ []) _ $
-        alloc1 ! (λ l₀. alloc1 ! (λ l₁. alloc1 ! (λ l₂. alloc1 ! (λ l₃. alloc1 ! (λ l₄. alloc1 ! (λ l₅. alloc1 ! (λ l₆. alloc1 ! (λ l₇. alloc1 ! (λ l₈. alloc1 ! (λ l₉. alloc1 ! (λ l₁₀. alloc1 ! (λ l₁₁. alloc1 ! (λ l₁₂. alloc1 ! (λ l₁₃. alloc1 ! (λ l₁₄. alloc1 ! (λ l₁₅. alloc1 ! (λ l₁₆. alloc1 ! (λ l₁₇. alloc1 ! (λ l₁₈. alloc1 ! (λ l₁₉. alloc0 ! $ params1 ! $
-        pass1 ! (init ! 36 refl (tt, (tt, (record { fits = x-room .0 }, tt)))) $ pass1 ! (init ! 34 refl (tt, tt)) $ pass1 ! (init ! 32 refl (tt, record { fits = n-fits })) $ pass1 ! (init ! 30 refl (tt, record { fits = m-fits })) $ pass1 ! (init ! 28 refl (tt, record { fits = bad-fits })) $ pass1 ! (init ! 26 refl (tt, tt)) $ pass1 ! (init ! 24 refl (tt, (tt, (record { fits = w-room .0 }, tt)))) $ pass1 ! (init ! 22 refl (tt, (tt, (record { fits = y-room .0 }, tt)))) $ pass1 ! (init ! 20 refl (tt, (tt, (record { fits = z-room .0 }, tt)))) $ pass0 ! $
-        move ! (40 ∷ []) $ split ! $ move ! (1 ∷ []) $ split ! $ move ! (1 ∷ []) $ split ! $ move ! (1 ∷ []) $ split ! $ move ! (45 ∷ []) $ fsplit ! $ move ! (1 ∷ []) $ fsplit ! $ move ! (1 ∷ []) $ fsplit ! $ move ! (1 ∷ []) $ fsplit ! $ move ! (1 ∷ []) $ fsplit ! $ move ! (1 ∷ []) $ fsplit ! $ move ! (1 ∷ []) $ fsplit ! $ move ! (1 ∷ []) $ fsplit ! $ move ! (1 ∷ []) $ fsplit ! $
-        move ! (1 ∷ 11 ∷ 8 ∷ 7 ∷ 6 ∷ 5 ∷ 4 ∷ 9 ∷ 14 ∷ 3 ∷ 13 ∷ 2 ∷ 12 ∷ 0 ∷ 10 ∷ []) $ let-go ! $ let-go ! $ let-go ! $ let-go ! $ let-go ! $ let-go ! $ let-go ! $
-        assigns ! (of-opd ! (load ! (from ! (stop !)) (look ! 34 refl))) (from ! (stop !)) (init ! 26 refl (tt, tt)) $
-        forks ! (load ! (from ! (stop !)) (look ! 26 refl))
+        qed W ((‵ (flft κx qx) ⊛ ‵ (flft κw qw) ⊛ ‵ (flft κy qy) ⊛ ‵ (flft κz qz) ⊛ ‵ ftrue) ∷ ‵ (owns (ShrSlice (named 0) κx Edgeᴿ.the-row ∷ bool ∷ usize ∷ usize ∷ Gateᴿ.the-row ∷ MutSlice (named 1) κw u64 ∷ MutSlice (named 2) κy u32 ∷ MutSlice (named 3) κz u8 ∷ []) (x, (high, (n, (m, (g, (w, (y, (z, tt)))))))) vals) ∷ []) ∵ enter ! (𝓣 .C) (𝓣 .Λ) code.function (val x ∷ vbool (high) ∷ vint w64 (n) ∷ vint w64 (m) ∷ only (LL.vals Gateᴿ.the-type Gateᴸ.the-laws g) ∷ val w ∷ val y ∷ val z ∷ []) _ $
+        alloc1 ! (λ l₀. alloc1 ! (λ l₁. alloc1 ! (λ l₂. alloc1 ! (λ l₃. alloc1 ! (λ l₄. alloc1 ! (λ l₅. alloc1 ! (λ l₆. alloc1 ! (λ l₇. alloc1 ! (λ l₈. alloc1 ! (λ l₉. alloc1 ! (λ l₁₀. alloc1 ! (λ l₁₁. alloc1 ! (λ l₁₂. alloc1 ! (λ l₁₃. alloc1 ! (λ l₁₄. alloc1 ! (λ l₁₅. alloc0 ! $ params1 ! $
+        pass1 ! (init ! 28 refl (tt, (tt, (record { fits = x-room .0 }, tt)))) $ pass1 ! (init ! 26 refl (tt, tt)) $ pass1 ! (init ! 24 refl (tt, record { fits = n-fits })) $ pass1 ! (init ! 22 refl (tt, record { fits = m-fits })) $ pass1 ! (init ! 20 refl (LL.lawful Gateᴿ.the-type Gateᴸ.the-laws 𝓤 H A W .typed g _ g-is .0)) $ pass1 ! (init ! 18 refl (tt, (tt, (record { fits = w-room .0 }, tt)))) $ pass1 ! (init ! 16 refl (tt, (tt, (record { fits = y-room .0 }, tt)))) $ pass1 ! (init ! 14 refl (tt, (tt, (record { fits = z-room .0 }, tt)))) $ pass0 ! $
+        move ! (32 ∷ []) $ split ! $ move ! (1 ∷ []) $ split ! $ move ! (1 ∷ []) $ split ! $ move ! (1 ∷ []) $ split ! $ move ! (37 ∷ []) $ fsplit ! $ move ! (1 ∷ []) $ fsplit ! $ move ! (1 ∷ []) $ fsplit ! $ move ! (1 ∷ []) $ fsplit ! $ move ! (1 ∷ []) $ fsplit ! $ move ! (1 ∷ []) $ fsplit ! $ move ! (1 ∷ []) $ fsplit ! $ move ! (1 ∷ []) $ fsplit ! $
+        move ! (1 ∷ 10 ∷ 7 ∷ 6 ∷ 5 ∷ 4 ∷ 8 ∷ 13 ∷ 3 ∷ 12 ∷ 2 ∷ 11 ∷ 0 ∷ 9 ∷ []) $ let-go ! $ let-go ! $ let-go ! $ let-go ! $ let-go ! $ let-go ! $
+        assigns ! (of-opd ! (load ! (from ! (fld ! refl (stop !))) (look-in ! 28 (sub ! 0 refl (whole !))))) (from ! (stop !)) (init ! 20 refl (tt, tt)) $
+        forks ! (load ! (from ! (stop !)) (look ! 20 refl))
         (λ Q on ret leave g1. skips ! $ on ! _ $
-        assigns ! (addr ! (from ! (fld ! refl (hop ! (look-in ! 32 (sub ! 0 refl (whole !))) (stop !))))) (from ! (stop !)) (init ! 18 refl (tt, tt)) $
-        assigns ! (agg ! (and-then ! (load ! (from ! (stop !)) (look ! 18 refl)) (and-then ! (load ! (from ! (fld ! refl (stop !))) (look-in ! 32 (sub ! 1 refl (whole !)))) (no-more !)))) (from ! (stop !)) (init ! 16 refl (tt, (tt, (record { fits = w-room .0 }, tt)))) $
-        assigns ! (addr ! (from ! (fld ! refl (hop ! (look-in ! 30 (sub ! 0 refl (whole !))) (stop !))))) (from ! (stop !)) (init ! 14 refl (tt, tt)) $
-        assigns ! (agg ! (and-then ! (load ! (from ! (stop !)) (look ! 14 refl)) (and-then ! (load ! (from ! (fld ! refl (stop !))) (look-in ! 30 (sub ! 1 refl (whole !)))) (no-more !)))) (from ! (stop !)) (init ! 12 refl (tt, (tt, (record { fits = y-room .0 }, tt)))) $
-        assigns ! (addr ! (from ! (fld ! refl (hop ! (look-in ! 28 (sub ! 0 refl (whole !))) (stop !))))) (from ! (stop !)) (init ! 10 refl (tt, tt)) $
-        assigns ! (agg ! (and-then ! (load ! (from ! (stop !)) (look ! 10 refl)) (and-then ! (load ! (from ! (fld ! refl (stop !))) (look-in ! 28 (sub ! 1 refl (whole !)))) (no-more !)))) (from ! (stop !)) (init ! 8 refl (tt, (tt, (record { fits = z-room .0 }, tt)))) $
-        calls-run-peeler ! fm at-mem run known-run-peeler κx qx x high n n-fits m m-fits κw qw w (now w) refl w-room κy qy y (now y) refl y-room κz qz z (now z) refl z-room (run-asks asked (is-true allowed g1))
-        (λ ν0 δ0 ν1 δ1 ν2 δ2. and-then ! (load ! (from ! (stop !)) (look ! 44 refl)) (and-then ! (load ! (from ! (stop !)) (look ! 42 refl)) (and-then ! (load ! (from ! (stop !)) (look ! 40 refl)) (and-then ! (load ! (from ! (stop !)) (look ! 38 refl)) (and-then ! (load ! (from ! (stop !)) (look ! 16 refl)) (and-then ! (load ! (from ! (stop !)) (look ! 12 refl)) (and-then ! (load ! (from ! (stop !)) (look ! 8 refl)) (no-more !)))))))) (λ r0 z0w z0y z0z s0 l0w l0y l0z i0.
-        land ! (from ! (stop !)) (init ! 46 refl (LL.lawful Peelingᴿ.the-type Peelingᴸ.the-laws 𝓤 H A W .typed r0 _ i0 .0)) $
-        returns ! (look ! 46 refl) $ forget ! 8 refl $ forget ! 10 refl $ forget ! 12 refl $ forget ! 14 refl $ forget ! 16 refl $ forget ! 18 refl $ forget ! 26 refl $ forget ! 28 refl $ forget ! 30 refl $ forget ! 32 refl $ forget ! 34 refl $ forget ! 36 refl $ forget ! 38 refl $ forget ! 40 refl $ forget ! 42 refl $ forget ! 44 refl $ forget ! 46 refl $
-        move ! (46 ∷ 47 ∷ 44 ∷ 45 ∷ 42 ∷ 43 ∷ 40 ∷ 41 ∷ 38 ∷ 39 ∷ 36 ∷ 37 ∷ 34 ∷ 35 ∷ 32 ∷ 33 ∷ 30 ∷ 31 ∷ 28 ∷ 29 ∷ 26 ∷ 27 ∷ 24 ∷ 25 ∷ 22 ∷ 23 ∷ 20 ∷ 21 ∷ 18 ∷ 19 ∷ 16 ∷ 17 ∷ 14 ∷ 15 ∷ 12 ∷ 13 ∷ 10 ∷ 11 ∷ 8 ∷ 9 ∷ []) $ free1 ! $ free1 ! $ free1 ! $ free1 ! $ free1 ! $ free1 ! $ free1 ! $ free1 ! $ free1 ! $ free1 ! $ free1 ! $ free1 ! $ free1 ! $ free1 ! $ free1 ! $ free1 ! $ free1 ! $ free1 ! $ free1 ! $ free1 ! $ free0 ! $
-        by ! (exits r0 z0w z0y z0z (run-leaves asked (is-true allowed g1) s0) l0w l0y l0z i0)))
+        assigns ! (addr ! (from ! (fld ! refl (hop ! (look-in ! 26 (sub ! 0 refl (whole !))) (stop !))))) (from ! (stop !)) (init ! 18 refl (tt, tt)) $
+        assigns ! (agg ! (and-then ! (load ! (from ! (stop !)) (look ! 18 refl)) (and-then ! (load ! (from ! (fld ! refl (stop !))) (look-in ! 26 (sub ! 1 refl (whole !)))) (no-more !)))) (from ! (stop !)) (init ! 16 refl (tt, (tt, (record { fits = w-room .0 }, tt)))) $
+        assigns ! (addr ! (from ! (fld ! refl (hop ! (look-in ! 24 (sub ! 0 refl (whole !))) (stop !))))) (from ! (stop !)) (init ! 14 refl (tt, tt)) $
+        assigns ! (agg ! (and-then ! (load ! (from ! (stop !)) (look ! 14 refl)) (and-then ! (load ! (from ! (fld ! refl (stop !))) (look-in ! 24 (sub ! 1 refl (whole !)))) (no-more !)))) (from ! (stop !)) (init ! 12 refl (tt, (tt, (record { fits = y-room .0 }, tt)))) $
+        assigns ! (addr ! (from ! (fld ! refl (hop ! (look-in ! 22 (sub ! 0 refl (whole !))) (stop !))))) (from ! (stop !)) (init ! 10 refl (tt, tt)) $
+        assigns ! (agg ! (and-then ! (load ! (from ! (stop !)) (look ! 10 refl)) (and-then ! (load ! (from ! (fld ! refl (stop !))) (look-in ! 22 (sub ! 1 refl (whole !)))) (no-more !)))) (from ! (stop !)) (init ! 8 refl (tt, (tt, (record { fits = z-room .0 }, tt)))) $
+        calls-run-peeler ! fm at-mem run known-run-peeler κx qx x high n n-fits m m-fits κw qw w (now w) refl w-room κy qy y (now y) refl y-room κz qz z (now z) refl z-room (run-asks asked (is-true (g .opened) g1))
+        (λ ν0 δ0 ν1 δ1 ν2 δ2. and-then ! (load ! (from ! (stop !)) (look ! 36 refl)) (and-then ! (load ! (from ! (stop !)) (look ! 34 refl)) (and-then ! (load ! (from ! (stop !)) (look ! 32 refl)) (and-then ! (load ! (from ! (stop !)) (look ! 30 refl)) (and-then ! (load ! (from ! (stop !)) (look ! 16 refl)) (and-then ! (load ! (from ! (stop !)) (look ! 12 refl)) (and-then ! (load ! (from ! (stop !)) (look ! 8 refl)) (no-more !)))))))) (λ r0 z0w z0y z0z s0 l0w l0y l0z i0.
+        land ! (from ! (stop !)) (init ! 38 refl (LL.lawful Peelingᴿ.the-type Peelingᴸ.the-laws 𝓤 H A W .typed r0 _ i0 .0)) $
+        returns ! (look ! 38 refl) $ forget ! 8 refl $ forget ! 10 refl $ forget ! 12 refl $ forget ! 14 refl $ forget ! 16 refl $ forget ! 18 refl $ forget ! 20 refl $ forget ! 22 refl $ forget ! 24 refl $ forget ! 26 refl $ forget ! 28 refl $ forget ! 30 refl $ forget ! 32 refl $ forget ! 34 refl $ forget ! 36 refl $ forget ! 38 refl $
+        move ! (38 ∷ 39 ∷ 36 ∷ 37 ∷ 34 ∷ 35 ∷ 32 ∷ 33 ∷ 30 ∷ 31 ∷ 28 ∷ 29 ∷ 26 ∷ 27 ∷ 24 ∷ 25 ∷ 22 ∷ 23 ∷ 20 ∷ 21 ∷ 18 ∷ 19 ∷ 16 ∷ 17 ∷ 14 ∷ 15 ∷ 12 ∷ 13 ∷ 10 ∷ 11 ∷ 8 ∷ 9 ∷ []) $ free1 ! $ free1 ! $ free1 ! $ free1 ! $ free1 ! $ free1 ! $ free1 ! $ free1 ! $ free1 ! $ free1 ! $ free1 ! $ free1 ! $ free1 ! $ free1 ! $ free1 ! $ free1 ! $ free0 ! $
+        by ! (exits r0 z0w z0y z0z (run-leaves asked (is-true (g .opened) g1) s0) l0w l0y l0z i0)))
         (λ Q on ret leave g1.
-        assigns ! (of-opd ! (load ! (from ! (fld ! refl (stop !))) (look-in ! 32 (sub ! 1 refl (whole !))))) (from ! (stop !)) (init ! 24 refl (tt, record { fits = w-room .0 })) $
-        assigns ! (of-opd ! (load ! (from ! (fld ! refl (stop !))) (look-in ! 30 (sub ! 1 refl (whole !))))) (from ! (stop !)) (init ! 22 refl (tt, record { fits = y-room .0 })) $
-        assigns ! (of-opd ! (load ! (from ! (fld ! refl (stop !))) (look-in ! 28 (sub ! 1 refl (whole !))))) (from ! (stop !)) (init ! 20 refl (tt, record { fits = z-room .0 })) $
-        calls-refusal ! fm at-mem run known-refusal high n n-fits m m-fits bad bad-fits (length (now w)) (w-room .0) (length (now y)) (y-room .0) (length (now z)) (z-room .0)
-        (and-then ! (load ! (from ! (stop !)) (look ! 43 refl)) (and-then ! (load ! (from ! (stop !)) (look ! 41 refl)) (and-then ! (load ! (from ! (stop !)) (look ! 39 refl)) (and-then ! (load ! (from ! (stop !)) (look ! 37 refl)) (and-then ! (load ! (from ! (stop !)) (look ! 25 refl)) (and-then ! (load ! (from ! (stop !)) (look ! 23 refl)) (and-then ! (load ! (from ! (stop !)) (look ! 21 refl)) (no-more !)))))))) (λ r1 s1 i1.
-        land ! (from ! (stop !)) (init ! 46 refl (LL.lawful Peelingᴿ.the-type Peelingᴸ.the-laws 𝓤 H A W .typed r1 _ i1 .0)) $
-        returns-within ! Post ret (look ! 46 refl) $ forget ! 20 refl $ forget ! 22 refl $ forget ! 24 refl $ forget ! 26 refl $ forget ! 28 refl $ forget ! 30 refl $ forget ! 32 refl $ forget ! 34 refl $ forget ! 36 refl $ forget ! 38 refl $ forget ! 40 refl $ forget ! 42 refl $ forget ! 44 refl $ forget ! 46 refl $
-        move ! (46 ∷ 47 ∷ 44 ∷ 45 ∷ 42 ∷ 43 ∷ 40 ∷ 41 ∷ 38 ∷ 39 ∷ 36 ∷ 37 ∷ 34 ∷ 35 ∷ 32 ∷ 33 ∷ 30 ∷ 31 ∷ 28 ∷ 29 ∷ 26 ∷ 27 ∷ 24 ∷ 25 ∷ 22 ∷ 23 ∷ 20 ∷ 21 ∷ 18 ∷ 19 ∷ 16 ∷ 17 ∷ 14 ∷ 15 ∷ 12 ∷ 13 ∷ 10 ∷ 11 ∷ 8 ∷ 9 ∷ []) $ free1 ! $ free1 ! $ free1 ! $ free1 ! $ free1 ! $ free1 ! $ free1 ! $ free1 ! $ free1 ! $ free1 ! $ free1 ! $ free1 ! $ free1 ! $ free1 ! $ free1 ! $ free1 ! $ free1 ! $ free1 ! $ free1 ! $ free1 ! $ free0 ! $
-        by ! (exits r1 (now w) (now y) (now z) (refusal-leaves asked (is-false allowed g1) s1) refl refl refl i1)))))))))))))))))))))))
+        assigns ! (of-opd ! (load ! (from ! (fld ! refl (stop !))) (look-in ! 28 (sub ! 1 refl (whole !))))) (from ! (stop !)) (init ! 38 refl (LL.lawful Peelingᴿ.the-type Peelingᴸ.the-laws 𝓤 H A W .typed (g .refusal) _ (LL.owed Gateᴿ.the-type Gateᴸ.the-laws g _ g-is .1 .0) .0)) $
+        returns-within ! Post ret (look ! 38 refl) $ forget ! 20 refl $ forget ! 22 refl $ forget ! 24 refl $ forget ! 26 refl $ forget ! 28 refl $ forget ! 30 refl $ forget ! 32 refl $ forget ! 34 refl $ forget ! 36 refl $ forget ! 38 refl $
+        move ! (38 ∷ 39 ∷ 36 ∷ 37 ∷ 34 ∷ 35 ∷ 32 ∷ 33 ∷ 30 ∷ 31 ∷ 28 ∷ 29 ∷ 26 ∷ 27 ∷ 24 ∷ 25 ∷ 22 ∷ 23 ∷ 20 ∷ 21 ∷ 18 ∷ 19 ∷ 16 ∷ 17 ∷ 14 ∷ 15 ∷ 12 ∷ 13 ∷ 10 ∷ 11 ∷ 8 ∷ 9 ∷ []) $ free1 ! $ free1 ! $ free1 ! $ free1 ! $ free1 ! $ free1 ! $ free1 ! $ free1 ! $ free1 ! $ free1 ! $ free1 ! $ free1 ! $ free1 ! $ free1 ! $ free1 ! $ free1 ! $ free0 ! $
+        by ! (exits (g .refusal) (now w) (now y) (now z) (refusal-leaves asked (is-false (g .opened) g1)) refl refl refl (LL.owed Gateᴿ.the-type Gateᴸ.the-laws g _ g-is .1 .0)))))))))))))))))))
 
-module _ {M : Type 1} (𝓤 : URA M) (H : Heap 𝓤) (A : Atoms 𝓤) (W : Given 𝓤 H A) (at-mem : Memory → SProp 𝓤) (run : Routine → Fun 𝓤) (𝓣 : Tables 𝓤 H) (known-run-peeler : Triple 𝓤 (𝓣 .C run-peeler-def.name) (RunPeelerᶜ 𝓤 H A at-mem run)) (known-refusal : Triple 𝓤 (𝓣 .C refusal-def.name) (Refusalᶜ 𝓤 H A at-mem run)) where
+module _ {M : Type 1} (𝓤 : URA M) (H : Heap 𝓤) (A : Atoms 𝓤) (W : Given 𝓤 H A) (at-mem : Memory → SProp 𝓤) (run : Routine → Fun 𝓤) (𝓣 : Tables 𝓤 H) (known-run-peeler : Triple 𝓤 (𝓣 .C run-peeler-def.name) (RunPeelerᶜ 𝓤 H A at-mem run)) where
   walks : Walks 𝓤 H A self.ended stayed (WpFn 𝓤 H (𝓣 .C) (𝓣 .Λ) code.function) (self.clauses 𝓤 H A at-mem run)
-  walks = walked 𝓤 H A self.ended stayed (self.clauses 𝓤 H A at-mem run) (WpFn 𝓤 H (𝓣 .C) (𝓣 .Λ) code.function) (λ κs. (slice-vals, (bool-vals, (uint-vals w64, (uint-vals w64, (uint-vals w64, (bool-vals, (slice-vals, (slice-vals, (slice-vals, tt)))))))))) (λ κs. (shr-slice-tells (named 0) (κs .0) Edgeᴿ.the-row, (bool-tells, (uint-tells w64, (uint-tells w64, (uint-tells w64, (bool-tells, (mut-slice-tells (named 1) (κs .1 .0) u64, (mut-slice-tells (named 2) (κs .1 .1 .0) u32, (mut-slice-tells (named 3) (κs .1 .1 .1 .0) u8, tt))))))))))
-      (λ κs qs bounds a g are. needs 𝓤 (Judged (a .1 .0) (a .1 .1 .0) (a .1 .1 .1 .0) (a .1 .1 .1 .1 .0) (a .1 .1 .1 .1 .1 .0) (now (a .0)) (now (a .1 .1 .1 .1 .1 .1 .0)) (now (a .1 .1 .1 .1 .1 .1 .1 .0)) (now (a .1 .1 .1 .1 .1 .1 .1 .1 .0))) _ (walk 𝓤 H A W at-mem run (κs .0) (κs .1 .0) (κs .1 .1 .0) (κs .1 .1 .1 .0) (qs .0) (qs .1 .0) (qs .1 .1 .0) (qs .1 .1 .1 .0) (a .0) (a .1 .0) (a .1 .1 .0) (a .1 .1 .1 .0) (a .1 .1 .1 .1 .0) (a .1 .1 .1 .1 .1 .0) (a .1 .1 .1 .1 .1 .1 .0) (a .1 .1 .1 .1 .1 .1 .1 .0) (a .1 .1 .1 .1 .1 .1 .1 .1 .0) (are .0 .0 .1) (are .1 .1 .0 .1) (are .1 .1 .1 .0 .1) (are .1 .1 .1 .1 .0 .1) (are .1 .1 .1 .1 .1 .1 .0 .0 .1) (are .1 .1 .1 .1 .1 .1 .1 .0 .0 .1) (are .1 .1 .1 .1 .1 .1 .1 .1 .0 .0 .1) 𝓣 (fmOf 𝓤 H (W .laws) 𝓣) known-run-peeler known-refusal))
+  walks = walked 𝓤 H A self.ended stayed (self.clauses 𝓤 H A at-mem run) (WpFn 𝓤 H (𝓣 .C) (𝓣 .Λ) code.function) (λ κs. (slice-vals, (bool-vals, (uint-vals w64, (uint-vals w64, (LL.vals Gateᴿ.the-type Gateᴸ.the-laws, (slice-vals, (slice-vals, (slice-vals, tt))))))))) (λ κs. (shr-slice-tells (named 0) (κs .0) Edgeᴿ.the-row, (bool-tells, (uint-tells w64, (uint-tells w64, (LL.tells Gateᴿ.the-type Gateᴸ.the-laws, (mut-slice-tells (named 1) (κs .1 .0) u64, (mut-slice-tells (named 2) (κs .1 .1 .0) u32, (mut-slice-tells (named 3) (κs .1 .1 .1 .0) u8, tt)))))))))
+      (λ κs qs bounds a g are. needs 𝓤 (Judged (a .1 .0) (a .1 .1 .0) (a .1 .1 .1 .0) (a .1 .1 .1 .1 .0) (now (a .0)) (now (a .1 .1 .1 .1 .1 .0)) (now (a .1 .1 .1 .1 .1 .1 .0)) (now (a .1 .1 .1 .1 .1 .1 .1 .0))) _ (walk 𝓤 H A W at-mem run (κs .0) (κs .1 .0) (κs .1 .1 .0) (κs .1 .1 .1 .0) (qs .0) (qs .1 .0) (qs .1 .1 .0) (qs .1 .1 .1 .0) (a .0) (a .1 .0) (a .1 .1 .0) (a .1 .1 .1 .0) (a .1 .1 .1 .1 .0) (a .1 .1 .1 .1 .1 .0) (a .1 .1 .1 .1 .1 .1 .0) (a .1 .1 .1 .1 .1 .1 .1 .0) (are .0 .0 .1) (are .1 .1 .0 .1) (are .1 .1 .1 .0 .1) (are .1 .1 .1 .1 .0) (are .1 .1 .1 .1 .1 .0 .0 .1) (are .1 .1 .1 .1 .1 .1 .0 .0 .1) (are .1 .1 .1 .1 .1 .1 .1 .0 .0 .1) 𝓣 (fmOf 𝓤 H (W .laws) 𝓣) known-run-peeler))
 
   meets : Meets 𝓤 H A self.signature (WpFn 𝓤 H (𝓣 .C) (𝓣 .Λ) code.function) (self.spec 𝓤 H A at-mem run)
-  meets = walk-meets 𝓤 H A self.ended stayed W (goes-none-slice 𝓤 H A W 4 (0 ∷ []) tt (plain (λ _. Edgeᴿ.the-row)) yes, (goes-dropped 𝓤 H A W 4 (plain (λ _. bool)) yes (λ κs x f. refl), (goes-dropped 𝓤 H A W 4 (plain (λ _. usize)) yes (λ κs x f. refl), (goes-dropped 𝓤 H A W 4 (plain (λ _. usize)) yes (λ κs x f. refl), (goes-dropped 𝓤 H A W 4 (plain (λ _. usize)) yes (λ κs x f. refl), (goes-dropped 𝓤 H A W 4 (plain (λ _. bool)) yes (λ κs x f. refl), (goes-slice 𝓤 H A W 4 1 tt (plain (λ _. u64)), (goes-slice 𝓤 H A W 4 2 tt (plain (λ _. u32)), (goes-slice 𝓤 H A W 4 3 tt (plain (λ _. u8)), tt))))))))) (self.clauses 𝓤 H A at-mem run)
+  meets = walk-meets 𝓤 H A self.ended stayed W (goes-none-slice 𝓤 H A W 4 (0 ∷ []) tt (plain (λ _. Edgeᴿ.the-row)) yes, (goes-dropped 𝓤 H A W 4 (plain (λ _. bool)) yes (λ κs x f. refl), (goes-dropped 𝓤 H A W 4 (plain (λ _. usize)) yes (λ κs x f. refl), (goes-dropped 𝓤 H A W 4 (plain (λ _. usize)) yes (λ κs x f. refl), (goes-dropped 𝓤 H A W 4 (plain (λ _. Gateᴿ.the-row)) yes (λ κs x f. refl), (goes-slice 𝓤 H A W 4 1 tt (plain (λ _. u64)), (goes-slice 𝓤 H A W 4 2 tt (plain (λ _. u32)), (goes-slice 𝓤 H A W 4 3 tt (plain (λ _. u8)), tt)))))))) (self.clauses 𝓤 H A at-mem run)
       (WpFn 𝓤 H (𝓣 .C) (𝓣 .Λ) code.function) (WpFn-mono 𝓤 H (W .laws) 𝓣 code.function) walks
 
 pub enter-spec : {M : Type 1} → stated.statement M
@@ -92,5 +88,4 @@ enter-spec 𝓤 H 𝓜 𝓖 𝓡 =
     entered 𝓤 H (tripleOf 𝓤 H (𝓖 .A) self.signature (self.spec 𝓤 H (𝓖 .A) (𝓜 .mem) (𝓡 .run)))
     (tables 𝓤 H 𝓜 𝓡 code.env .C) (tables 𝓤 H 𝓜 𝓡 code.env .Λ) #self code.function (code.unfolded 𝓤 H 𝓜 𝓡)
     (meets 𝓤 H (𝓖 .A) (givenOf 𝓤 H 𝓜 𝓖) (𝓜 .mem) (𝓡 .run) (tablesOf 𝓤 H 𝓜 (tables 𝓤 H 𝓜 𝓡 code.env))
-    (cited 𝓤 H (RunPeelerᶜ 𝓤 H (𝓖 .A) (𝓜 .mem) (𝓡 .run)) 𝓜 𝓡 code.env run-peeler-def.name run-peeler-def.routine code.calls-peel-runs·run·run-peeler (run-peeler-thm.met 𝓤 H 𝓜 𝓖 𝓡))
-    (cited 𝓤 H (Refusalᶜ 𝓤 H (𝓖 .A) (𝓜 .mem) (𝓡 .run)) 𝓜 𝓡 code.env refusal-def.name refusal-def.routine code.calls-peel-gates·rules·refusal (refusal-thm.met 𝓤 H 𝓜 𝓖 𝓡)))
+    (cited 𝓤 H (RunPeelerᶜ 𝓤 H (𝓖 .A) (𝓜 .mem) (𝓡 .run)) 𝓜 𝓡 code.env run-peeler-def.name run-peeler-def.routine code.calls-peel-runs·run·run-peeler (run-peeler-thm.met 𝓤 H 𝓜 𝓖 𝓡)))

@@ -19,7 +19,7 @@ use Rattle.peel_parts.proofs.parts.settle as self
 use Rattle.peel_parts.proofs.parts.settle.Statement as stated
 use Rattle.peel_parts.proofs.parts.settle.Code as code
 use Rattle.peel_parts.specs.Parts.{SettleAsks, Says, ranSays}
-use Rattle.peel_parts.proofs.PartLaws.{settle-fills, end-asks, settled}
+use Rattle.peel_parts.proofs.PartLaws.{end-asks, settled}
 
 abbrev stayed : Stays (self.ended .signature .params) (self.ended .kept)
 stayed = (stay-none-slice (0 ∷ []) tt (plain (λ _. Edgeᴿ.the-row)) yes, (stay-dropped (plain (λ _. bool)) yes, (stay-dropped (plain (λ _. usize)) yes, (stay-dropped (plain (λ _. usize)) yes, (stay-dropped (plain (λ _. usize)) yes, (stay-slice (1 ∷ []) tt (plain (λ _. u64)), (stay-none-slice (2 ∷ []) tt (plain (λ _. u32)) yes, (stay-none-slice (3 ∷ []) tt (plain (λ _. u8)) yes, tt))))))))
@@ -51,7 +51,7 @@ module _ {M : Type 1} (𝓤 : URA M) (H : Heap 𝓤) (A : Atoms 𝓤) (W : Given
         move ! (1 ∷ 10 ∷ 7 ∷ 6 ∷ 5 ∷ 4 ∷ 8 ∷ 13 ∷ 3 ∷ 12 ∷ 2 ∷ 11 ∷ 0 ∷ 9 ∷ []) $ let-go ! $ let-go ! $ let-go ! $ let-go ! $ let-go ! $ let-go ! $
         assigns ! (addr ! (from ! (fld ! refl (hop ! (look-in ! 18 (sub ! 0 refl (whole !))) (stop !))))) (from ! (stop !)) (init ! 10 refl (tt, tt)) $
         assigns ! (agg ! (and-then ! (load ! (from ! (stop !)) (look ! 10 refl)) (and-then ! (load ! (from ! (fld ! refl (stop !))) (look-in ! 18 (sub ! 1 refl (whole !)))) (no-more !)))) (from ! (stop !)) (init ! 8 refl (tt, (tt, (record { fits = w-room .0 }, tt)))) $
-        calls-fill-cells ! fm at-mem run known-fill-cells κx qx x high n n-fits m m-fits count count-fits κw qw w (now w) refl w-room κy qy y κz qz z (settle-fills asked)
+        calls-fill-cells ! fm at-mem run known-fill-cells κx qx x high n n-fits m m-fits count count-fits κw qw w (now w) refl w-room κy qy y κz qz z (asked .fills)
         (λ ν0 δ0. and-then ! (load ! (from ! (stop !)) (look ! 28 refl)) (and-then ! (load ! (from ! (stop !)) (look ! 26 refl)) (and-then ! (load ! (from ! (stop !)) (look ! 24 refl)) (and-then ! (load ! (from ! (stop !)) (look ! 22 refl)) (and-then ! (load ! (from ! (stop !)) (look ! 20 refl)) (and-then ! (load ! (from ! (stop !)) (look ! 8 refl)) (and-then ! (load ! (from ! (stop !)) (look ! 16 refl)) (and-then ! (load ! (from ! (stop !)) (look ! 14 refl)) (no-more !))))))))) (λ z0w s0 l0w.
         land ! (from ! (stop !)) (init ! 12 refl (tt, tt)) $
         calls-ended ! fm at-mem run known-ended m m-fits count count-fits (end-asks asked)

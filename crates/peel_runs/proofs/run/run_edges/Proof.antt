@@ -18,8 +18,8 @@ use Rattle.peel_runs.proofs.run.run_edges.Key.{name as #self}
 use Rattle.peel_runs.proofs.run.run_edges as self
 use Rattle.peel_runs.proofs.run.run_edges.Statement as stated
 use Rattle.peel_runs.proofs.run.run_edges.Code as code
-use Rattle.peel_runs.specs.Runs.{Admitted, runSays}
-use Rattle.peel_parts.specs.Parts.{Past, Says}
+use Rattle.peel_runs.specs.Runs.{runSays}
+use Rattle.peel_parts.specs.Parts.{Admitted, Past, Says}
 use Rattle.peel_runs.proofs.RunLaws.{begins, built-asks, past-building, past-more}
 
 abbrev stayed : Stays (self.ended .signature .params) (self.ended .kept)

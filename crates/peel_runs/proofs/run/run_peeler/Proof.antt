@@ -18,7 +18,8 @@ use Rattle.peel_runs.proofs.run.run_peeler.Key.{name as #self}
 use Rattle.peel_runs.proofs.run.run_peeler as self
 use Rattle.peel_runs.proofs.run.run_peeler.Statement as stated
 use Rattle.peel_runs.proofs.run.run_peeler.Code as code
-use Rattle.peel_runs.specs.Runs.{Admitted, Leaves, runCall}
+use Rattle.peel_parts.specs.Parts.{Admitted}
+use Rattle.peel_runs.specs.Runs.{Leaves, runCall}
 use Rattle.peel_runs.proofs.RunLaws.{clear-asks, run-left}
 
 abbrev stayed : Stays (self.ended .signature .params) (self.ended .kept)

@@ -1,7 +1,7 @@
 // The bib of a transponder.
 ghost use mathlib.Core.Path.{_≡_};
 ghost use Rattle.peel_rules.specs.Calls.{lookupCall};
-ghost use Rattle.peelers.specs.Lookups.{foundOf};
+ghost use Rattle.lookups.specs.Lookups.{foundOf};
 use answers::Answer;
 use answers::MAX_VARIABLES;
 use peel_gates::rules::keeps_rule;

@@ -1,11 +1,11 @@
 use Rattle.peel_rules.specs.Edges.{edge}
-use Rattle.peelers.proofs.ReadingLaws.{is-valid}
+use Rattle.lookups.proofs.ReadingLaws.{is-valid}
 use Rattle.peel_rules.specs.Peel.{edgeXor}
 use borrow.Author.Tests.{le-leb, lt-leb}
 use mathlib.Core.Path.{refl, sym, _∙_}
 use borrow.Author.Needs.{needs}
-use Rattle.peelers.proofs.reading.lookup.Statement.{statement}
-use Rattle.peelers.proofs.reading.lookup.Tie as tie
+use Rattle.lookups.proofs.reading.lookup.Statement.{statement}
+use Rattle.lookups.proofs.reading.lookup.Tie as tie
 
 -- src/reading.rt:22:9
 returns : tie.Need-returns
