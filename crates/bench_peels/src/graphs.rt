@@ -1,14 +1,14 @@
 // The two peelers on one table.
 ghost use Prim.Native.Nat.{_≤_, _<_};
 ghost use lib.ListN.{length};
-use crate::cores::crowded;
-use crate::cores::outside_core;
 use answers::Answer;
 use bench_checks::tally::HIGH;
 use bench_checks::tally::LOOKUP;
 use bench_checks::tally::LOW;
 use bench_checks::tally::count;
 use bench_checks::tally::hold;
+use bench_cores::cores::crowded;
+use bench_cores::cores::outside_core;
 use lent_cells::cells::left_bytes;
 use lent_cells::cells::left_numbers;
 use lent_cells::cells::left_words;

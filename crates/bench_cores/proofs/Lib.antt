@@ -1,0 +1,3 @@
+pub mod Living
+pub mod Counting
+pub mod Stripping

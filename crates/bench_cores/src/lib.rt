@@ -1,0 +1,2 @@
+// Crowds and cores of a table, by the rules alone.
+pub mod cores;
