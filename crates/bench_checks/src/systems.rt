@@ -138,7 +138,7 @@ fn solve_lazy(
     words: &mut [u64],
 ) -> Answer {
     mark(solution, numbers, words);
-    lazy_units::lazy_gaussian_elimination(n, m, starts, vars, constants, solution, numbers, words)
+    lazy_calls::lazy_gaussian_elimination(n, m, starts, vars, constants, solution, numbers, words)
 }
 
 fn by_lazy(

@@ -1,9 +1,9 @@
 // Lazy elimination under a plain name.
 use crate::tell;
-ghost use Rattle.lazy_units.specs.LazyCall.{lazyCall};
+ghost use Rattle.lazy_calls.specs.LazyCall.{lazyCall};
 ghost use Rattle.exports.specs.Told.{Tells};
 
-// `lazy_units::lazy_gaussian_elimination`.
+// `lazy_calls::lazy_gaussian_elimination`.
 #[no_mangle]
 pub extern "C" fn orohkaril_lazy(
     n: usize,
@@ -18,7 +18,7 @@ pub extern "C" fn orohkaril_lazy(
 ) -> u32
     ensures { λ r. ⌜ Tells (lazyCall n m (now (starts .entry)) (now (vars .entry)) (now (constants .entry)) (now (solution .entry)) (now (numbers .entry)) (now (words .entry))) r (now (place .exit)) (now (solution .exit)) (now (numbers .exit)) (now (words .exit)) ⌝ }
 {
-    let answer = lazy_units::lazy_gaussian_elimination(
+    let answer = lazy_calls::lazy_gaussian_elimination(
         n,
         m,
         starts,

@@ -2,13 +2,8 @@ pub mod Tails
 pub mod DensePart
 pub mod Ends
 pub mod Tidying
-pub mod Swept
 pub mod ClearRow
 pub mod FillTurns
 pub mod LastUnit
 pub mod UnitCases
 pub mod RunTurns
-pub mod Opening
-pub mod Closing
-pub mod Ladder
-pub mod CallTheorems

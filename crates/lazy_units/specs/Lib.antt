@@ -3,4 +3,3 @@ pub mod Units
 pub mod Clearing
 pub mod Ending
 pub mod Running
-pub mod LazyCall

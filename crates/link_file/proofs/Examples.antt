@@ -10,7 +10,7 @@ use Rattle.system.specs.System.{equationAt, equationsFrom, climbs, startsKept, 
 use Rattle.sparse_rules.specs.Eliminate.{summed, meeting, meetRow, outerRow, outerRows, echelonForm, contradicted, pin, backSub, finish, gaussianElimination}
 use Rattle.sparse_rules.specs.SparseCall.{sparseCall}
 use Rattle.lazy.specs.Lazy.{lazyElimination, wholeRun, after, unit, pop, popEquation, popVariable, popDense, passOver, copy, solveFor, skip, activate, lowered, pushed, addedInto, denseRow, lastUnit, fill, start, heaviest, listing, others}
-use Rattle.lazy_units.specs.LazyCall.{lazyCall}
+use Rattle.lazy_calls.specs.LazyCall.{lazyCall}
 use Rattle.link_form.specs.Bytes.{little, fields}
 use Rattle.link_lines.specs.Decimal.{decimal, digitsBefore}
 use Rattle.link_form.specs.File.{count, rowBytes, row, readRows, headerKept, readFile}

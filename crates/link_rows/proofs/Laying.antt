@@ -12,7 +12,7 @@ use Rattle.areas.specs.Stretch.{put}
 use Rattle.answers.specs.Calls.{Call}
 use Rattle.system.specs.Fits.{listedIn}
 use Rattle.sparse_rules.specs.SparseCall.{sparseCall}
-use Rattle.lazy_units.specs.LazyCall.{lazyCall}
+use Rattle.lazy_calls.specs.LazyCall.{lazyCall}
 use Rattle.link_form.specs.File.{lazyKind}
 use Rattle.link_load.specs.Loading.{startsOf, varsOf, constantsOf}
 use Rattle.link_load.proofs.LaidRows.{length-starts, length-vars, length-constants}

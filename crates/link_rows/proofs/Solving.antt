@@ -11,8 +11,8 @@ use Rattle.answers.specs.declared.Answer.the-variants.{Solved}
 use Rattle.system.proofs.SolverCalls.{Lent}
 use Rattle.sparse_rules.specs.SparseCall.{sparseCall}
 use Rattle.sparse_rules.proofs.CallTheorems.{sparseCall-solves}
-use Rattle.lazy_units.specs.LazyCall.{lazyCall}
-use Rattle.lazy_units.proofs.CallTheorems.{lazyCall-solves}
+use Rattle.lazy_calls.specs.LazyCall.{lazyCall}
+use Rattle.lazy_calls.proofs.CallTheorems.{lazyCall-solves}
 use Rattle.link_form.specs.File.{lazyKind}
 use Rattle.link_load.specs.Loading.{startsOf, varsOf, constantsOf}
 use Rattle.link_form.specs.Lent.{lentNumbers, lentWords, zeros}

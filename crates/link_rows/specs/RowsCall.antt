@@ -6,7 +6,7 @@ use lib.Dec.{eqb}
 use Rattle.gf2.specs.Equation.{Equation}
 use Rattle.answers.specs.Calls.{Call, pick}
 use Rattle.sparse_rules.specs.SparseCall.{sparseCall}
-use Rattle.lazy_units.specs.LazyCall.{lazyCall}
+use Rattle.lazy_calls.specs.LazyCall.{lazyCall}
 use Rattle.link_form.specs.File.{lazyKind}
 use Rattle.link_load.specs.Loading.{startsOf, varsOf, constantsOf}
 use Rattle.link_form.specs.Lent.{lentNumbers, lentWords, zeros}

@@ -26,7 +26,7 @@ fn solve_by_kind(
     ensures { λ _. ⌜ now (solution .exit) ≡ solverOf kind n m (now (starts .entry)) (now (vars .entry)) (now (constants .entry)) (now (solution .entry)) (now (numbers .entry)) (now (words .entry)) .solution ⌝ }
 {
     if kind == LAZY {
-        return lazy_units::lazy_gaussian_elimination(
+        return lazy_calls::lazy_gaussian_elimination(
             n,
             m,
             starts,

@@ -89,7 +89,7 @@ fn eliminate(
     words: &mut [u64],
 ) -> Answer {
     if lazy {
-        return lazy_units::lazy_gaussian_elimination(
+        return lazy_calls::lazy_gaussian_elimination(
             n,
             m,
             starts,

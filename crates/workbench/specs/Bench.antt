@@ -11,7 +11,7 @@ use Rattle.answers.specs.declared.Answer.the-variants.{Solved, TooLarge, BadSha
 use Rattle.equation.specs.Sums.{SumCall, sumCall}
 use Rattle.sparse_rules.specs.SparseCall.{sparseCall}
 use Rattle.dense.specs.Call.{denseCall}
-use Rattle.lazy_units.specs.LazyCall.{lazyCall}
+use Rattle.lazy_calls.specs.LazyCall.{lazyCall}
 use Rattle.peeling.specs.declared.numbers.Edge.{Edge}
 use Rattle.peel_rules.specs.Edges.{edge}
 use Rattle.peel_rules.specs.Report.{count}

@@ -1,9 +1,9 @@
 -- Each stretch begins where the one before it ends.
-use Rattle.lazy_units.proofs.Swept.{dense-here, swept-all}
+use Rattle.lazy_calls.proofs.Swept.{dense-here, swept-all}
 use native.Mathlib.Omega.{arith}
 use borrow.Author.Needs.{needs}
-use Rattle.lazy_units.proofs.sweeping.sweep.Statement.{statement}
-use Rattle.lazy_units.proofs.sweeping.sweep.Tie as tie
+use Rattle.lazy_calls.proofs.sweeping.sweep.Statement.{statement}
+use Rattle.lazy_calls.proofs.sweeping.sweep.Tie as tie
 
 empty-rows-requires : tie.Need-empty-rows-requires
 empty-rows-requires c κs = c .before .before .pre .equations

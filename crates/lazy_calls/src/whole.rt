@@ -1,17 +1,17 @@
 // The whole run on lent areas: set-up, units, zeros.
 use crate::sweeping::sweep;
-use crate::units::run_units;
 use answers::Answer;
 use lazy_pops::Step;
 use lazy_setup::Layout;
 use lazy_setup::setup;
+use lazy_units::units::run_units;
 ghost use mathlib.Core.Path.{_≡_};
 ghost use Prim.Native.Nat.{_≤_};
 ghost use lib.ListN.{length, replicate};
 ghost use Rattle.answers.specs.Sizes.{lazyNumbers, lazyWords};
 ghost use Rattle.system.specs.Fits.{Fits};
-ghost use Rattle.lazy_units.specs.LazyCall.{lazyRan, lazyAnswer};
+ghost use Rattle.lazy_calls.specs.LazyCall.{lazyRan, lazyAnswer};
 ghost use Rattle.lazy_units.specs.Units.{Over};
 
 // The build in areas that are just the room: they are zero afterwards.
 fn build(

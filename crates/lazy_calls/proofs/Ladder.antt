@@ -13,7 +13,7 @@ use Rattle.answers.specs.declared.Answer.{Answer}
 use Rattle.answers.specs.declared.Answer.the-variants.{WrongSolution, ShortArea}
 use Rattle.answers.specs.declared.Rules.the-variants.{Kept, Broken}
 use Rattle.system.specs.System.{systemRules}
-use Rattle.lazy_units.specs.LazyCall.{lazyRan, lazyCall}
+use Rattle.lazy_calls.specs.LazyCall.{lazyRan, lazyCall}
 
 module _ (n m : ℕ) (starts vars constants solution numbers words : List ℕ) where
   -- the answer and the lent cells are those of the call

@@ -1,11 +1,11 @@
-use Rattle.lazy_units.specs.LazyCall.{lazyAnswer}
+use Rattle.lazy_calls.specs.LazyCall.{lazyAnswer}
 use lib.Seq.{length-take-le}
 use mathlib.Core.Path.{sym, _∙_}
-use Rattle.lazy_units.proofs.Closing.{room-zero, end-solved, end-refused, end-more}
+use Rattle.lazy_calls.proofs.Closing.{room-zero, end-solved, end-refused, end-more}
 use native.Mathlib.Omega.{arith}
 use borrow.Author.Needs.{needs}
-use Rattle.lazy_units.proofs.whole.run.Statement.{statement}
-use Rattle.lazy_units.proofs.whole.run.Tie as tie
+use Rattle.lazy_calls.proofs.whole.run.Statement.{statement}
+use Rattle.lazy_calls.proofs.whole.run.Tie as tie
 
 lazy-numbers-requires : tie.Need-lazy-numbers-requires
 lazy-numbers-requires c κs = let f = c .before .before .before .before .before .before .pre .0 in (f .few-variables, f .few-equations, f .few-listed)

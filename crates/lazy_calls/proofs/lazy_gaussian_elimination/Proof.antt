@@ -1,10 +1,10 @@
 use mathlib.Core.Path.{sym, _∙_}
-use Rattle.lazy_units.proofs.Ladder.{call-broken, call-wrong, call-short-numbers, call-short-words, call-run}
+use Rattle.lazy_calls.proofs.Ladder.{call-broken, call-wrong, call-short-numbers, call-short-words, call-run}
 use Rattle.system.proofs.Soundness.{kept-sound}
 use native.Mathlib.Omega.{arith}
 use borrow.Author.Needs.{needs}
-use Rattle.lazy_units.proofs.lazy_gaussian_elimination.Statement.{statement}
-use Rattle.lazy_units.proofs.lazy_gaussian_elimination.Tie as tie
+use Rattle.lazy_calls.proofs.lazy_gaussian_elimination.Statement.{statement}
+use Rattle.lazy_calls.proofs.lazy_gaussian_elimination.Tie as tie
 
 returns : tie.Need-returns
 returns c = call-wrong _ _ _ _ _ _ _ _ (sym (c .before .before .before .rules .ensures) ∙ c .before .enum-told .given .1) (c .if1 .taken)

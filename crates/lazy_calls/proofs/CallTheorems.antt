@@ -14,7 +14,7 @@ use Rattle.answers.specs.declared.Answer.the-variants.{Solved, Unsolvable}
 use Rattle.system.proofs.SolverCalls.{Lent, system, Runs, call-solves, call-exact, call-narrow, call-isolated}
 use Rattle.lazy.specs.Lazy.{lazyElimination}
 use Rattle.lazy.proofs.Theorems.{lazy-solves, lazy-exact, lazy-narrow, lazy-isolated}
-use Rattle.lazy_units.specs.LazyCall.{lazyCall}
+use Rattle.lazy_calls.specs.LazyCall.{lazyCall}
 
 abbrev wordsRoom : ℕ → ℕ → ℕ → ℕ
 wordsRoom n m t = lazyWords m

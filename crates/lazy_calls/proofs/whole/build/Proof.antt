@@ -1,12 +1,12 @@
 use mathlib.Core.Path.{refl, ap, _∙_}
 use Prim.Native.Nat.{ℕ}
 use lib.ListN.{replicate}
-use Rattle.lazy_units.proofs.Closing.{words-zero}
-use Rattle.lazy_units.proofs.Opening.{open-at, built}
+use Rattle.lazy_calls.proofs.Closing.{words-zero}
+use Rattle.lazy_calls.proofs.Opening.{open-at, built}
 use native.Mathlib.Omega.{arith}
 use borrow.Author.Needs.{needs}
-use Rattle.lazy_units.proofs.whole.build.Statement.{statement}
-use Rattle.lazy_units.proofs.whole.build.Tie as tie
+use Rattle.lazy_calls.proofs.whole.build.Statement.{statement}
+use Rattle.lazy_calls.proofs.whole.build.Tie as tie
 
 setup-requires : tie.Need-setup-requires
 setup-requires c κs = let p = c .before .before .before .before .before .before .before .before .pre in (p .0, omega (arith, p .2), omega (arith, p .3))

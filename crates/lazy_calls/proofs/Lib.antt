@@ -1,0 +1,5 @@
+pub mod Swept
+pub mod Opening
+pub mod Closing
+pub mod Ladder
+pub mod CallTheorems
