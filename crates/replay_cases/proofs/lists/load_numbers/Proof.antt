@@ -1,7 +1,7 @@
 use native.Mathlib.Omega.{arith}
 use Prim.Native.Nat.{_-_}
 use borrow.Author.Needs.{needs}
-use Rattle.link_form.proofs.Loading.{narrow-fits}
+use Rattle.link_form.proofs.Reading.{narrow-fits}
 use Rattle.replay_cases.proofs.ListLoading.{head-fits, Loading, loading-begin, loading-room, loading-turn, loading-end, loads-short, loads-wide, loads-fit, ends-missing, ends-loaded}
 use Rattle.replay_cases.proofs.lists.load_numbers.Statement.{statement}
 use Rattle.replay_cases.proofs.lists.load_numbers.Tie as tie
