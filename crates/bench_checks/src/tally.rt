@@ -1,5 +1,7 @@
 // Answers and comparisons, counted.
+ghost use mathlib.Core.Path.{_≡_};
 ghost use Prim.Native.Nat.{_<_};
+ghost use Rattle.bench_checks.specs.Tally.{oneMore, countedIn, heldTo};
 use answers::Answer;
 use std::num::wrapping_add_u64;
 
@@ -26,6 +28,7 @@ pub const DIFFERENT: usize = 78;
 
 fn add_one(tally: &mut [u64; 79], k: usize)
     requires { ⌜ k < 79 ⌝ }
+    ensures { λ _. ⌜ now (tally .exit) ≡ oneMore k (now (tally .entry)) ⌝ }
 {
     tally[k] = wrapping_add_u64(tally[k], 1);
 }
@@ -33,12 +36,15 @@ fn add_one(tally: &mut [u64; 79], k: usize)
 // Counts an answer in a row.
 pub fn count(tally: &mut [u64; 79], row: usize, answer: Answer)
     requires { ⌜ row < 7 ⌝ }
+    ensures { λ _. ⌜ now (tally .exit) ≡ countedIn row answer (now (tally .entry)) ⌝ }
 {
     add_one(tally, row * NUMBERS + answer.number() as usize);
 }
 
 // Counts a comparison, and whether it found what it should.
-pub fn hold(tally: &mut [u64; 79], good: bool) {
+pub fn hold(tally: &mut [u64; 79], good: bool)
+    ensures { λ _. ⌜ now (tally .exit) ≡ heldTo good (now (tally .entry)) ⌝ }
+{
     add_one(tally, COMPARED);
     if !good {
         add_one(tally, DIFFERENT);

@@ -4,10 +4,11 @@ use mathlib.Core.List.{List}
 use Prim.Native.Nat.{ℕ, _+_, _-_, _≤_}
 use lib.Dec.{ltb, leb, eqb}
 use Rattle.answers.specs.Calls.{pick}
+use Rattle.answers.specs.declared.Answer.{Answer}
 use Rattle.lent_cells.specs.Cells.{sameCells, leftCells}
 use Rattle.replay_cases.specs.declared.lend.Room.{Room}
 use Rattle.replay_cases.specs.declared.said.Said.{Said}
-use Rattle.replay_cases.specs.Judged.{isRefusal, plainly}
+use Rattle.replay_cases.specs.Judged.{isRefusal, plainly, agreement}
 
 pub record Lendable (r : Room) : Type 0 where
   pub solution : r .solution ≤ 1024
@@ -49,3 +50,10 @@ zerosAfter number room = pick (isRefusal number) 0 room
 -- the expected solution after 0, the marks after every other number
 abbrev pub solutionLeft : ℕ → List ℕ → List ℕ → Bool
 solutionLeft number solution expected = pick (eqb number 0) (sameCells solution expected) (leftCells 0 solution)
+
+-- the answer, the solution, and both areas: zeros in the room after a run, and the marks everywhere else
+abbrev pub judgedBy : Answer → Said → Room → List ℕ → List ℕ → List ℕ → List ℕ → Bool
+judgedBy answer want room solution found numbers words =
+    agreement answer want
+    && (solutionLeft (want .number) solution found
+    && (leftCells (zerosAfter (want .number) (room .numbers)) numbers && leftCells (zerosAfter (want .number) (room .others)) words))

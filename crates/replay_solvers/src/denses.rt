@@ -1,7 +1,7 @@
 // Dense elimination, replayed.
-use crate::systems::judged;
 use lent_cells::cells::marked_numbers;
 use lent_cells::cells::marked_words;
+use replay_cases::judging::judged;
 use replay_cases::lend::Room;
 use replay_cases::lend::WAYS;
 use replay_cases::lend::lent_as;

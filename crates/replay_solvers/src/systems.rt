@@ -1,44 +1,18 @@
 // Sparse and lazy elimination, replayed.
 use answers::Answer;
-use lent_cells::cells::left_numbers;
-use lent_cells::cells::left_words;
 use lent_cells::cells::marked_numbers;
 use lent_cells::cells::marked_words;
+use replay_cases::judging::judged;
 use replay_cases::lend::Room;
 use replay_cases::lend::WAYS;
 use replay_cases::lend::lent_as;
-use replay_cases::lend::solution_left;
 use replay_cases::lend::wanted;
-use replay_cases::lend::zeros_after;
 use replay_cases::lists::load_numbers;
 use replay_cases::lists::load_words;
 use replay_cases::said::Said;
 use replay_cases::said::Verdict;
-use replay_cases::said::agrees;
 use replay_cases::said::came_of;
 use replay_cases::said::said_of;
-
-// Whether the answer, the solution and both areas are as they must be.
-pub fn judged(
-    answer: Answer,
-    want: Said,
-    room: Room,
-    solution: &[u64],
-    found: &[u64],
-    numbers: &[u32],
-    words: &[u64],
-) -> bool {
-    if !agrees(answer, want) {
-        return false;
-    }
-    if !solution_left(want.number, solution, found) {
-        return false;
-    }
-    if !left_numbers(numbers, zeros_after(want.number, room.numbers)) {
-        return false;
-    }
-    left_words(words, zeros_after(want.number, room.others))
-}
 
 // The room, as far as the replay goes; past that a case is refused for its size.
 fn system_room(lazy: bool, n: usize, m: usize, t: usize) -> Room {
