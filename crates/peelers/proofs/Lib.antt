@@ -2,5 +2,6 @@ pub mod CallRules
 pub mod EitherCall
 pub mod ReadingLaws
 pub mod ProgramRules
+pub mod ProgramWalk
 pub mod ProgramLaws
 pub mod Examples
