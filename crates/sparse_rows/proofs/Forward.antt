@@ -21,10 +21,9 @@ use Rattle.sparse_rows.specs.declared.echelon.Met.the-variants.{Clash, I
 use Rattle.sparse_rows.specs.declared.echelon.Reduction.{Reduction}
 use Rattle.sparse_rows.specs.declared.echelon.Reduction.the-variants.{Unsolvable, Reduced}
 use Rattle.sparse_rules.proofs.Cases.{meeting-skip, meeting-clash, meeting-idle, meeting-stay, meeting-swap, meeting-sum, summed-identity, summed-clash, summed-swap, summed-stay}
-use Rattle.sparse_rows.proofs.Loops.{meetLoop, loop-clash, loop-identity, loop-both, loop-over, followed, outer-blank, outer-wrong, outer-loop}
 
 -- a list without elements begins with nothing
-blank : (vs : List ℕ) → length vs ≡ 0 → getD vs 0 0 ≡ 0
+pub blank : (vs : List ℕ) → length vs ≡ 0 → getD vs 0 0 ≡ 0
 blank [] e = refl
 blank (v ∷ vs) e = absurd (omega arith)
 

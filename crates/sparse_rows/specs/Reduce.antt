@@ -1,13 +1,14 @@
 -- What the steps of the elimination leave in areas that hold rows.
 use mathlib.Core.Path.{_≡_}
 use mathlib.Core.List.{List, [], _∷_, _++_}
-use Prim.Native.Nat.{ℕ}
+use Prim.Native.Nat.{ℕ, _-_, _≤_}
 use lib.ListN.{length, getD, set, take, drop}
 use Rattle.gf2.specs.Equation.{Equation}
 use Rattle.gf2.specs.Result.{Result, unsolvable, ok}
 use Rattle.answers.specs.Sizes.{sparseNumbers, sparseWords}
 use Rattle.rows.specs.Picture.{Drawn, Kept, rowsOf, rowAt}
 use Rattle.sparse_rules.specs.Eliminate.{Meeting, clash, identity, both, meeting, summed, outerRow, echelonForm}
+use Rattle.sparse_rows.specs.Loop.{meetLoop, StandsAt}
 use Rattle.sparse_rows.specs.declared.echelon.Met.{Met}
 use Rattle.sparse_rows.specs.declared.echelon.Met.the-variants.{Clash, Identity, Both}
 use Rattle.sparse_rows.specs.declared.echelon.Reduction.{Reduction}
@@ -30,6 +31,11 @@ pub data FinishedBy (o : Result (List ℕ)) (x x′ : List ℕ) : Reduction → 
   filled : o ≡ ok x′ → FinishedBy o x x′ Reduced
 
 -- ---- of areas, at entry and at exit
+
+-- row i has met the rows from j up to r, and what is left of its round gives what all of it gave
+pub record Passes (n m d i j : ℕ) (numbers words numbers′ words′ : List ℕ) (r : ℕ) : Type 0 where
+  pub from : j ≤ r
+  pub stands : StandsAt n m d i (meetLoop (d - j) i j (rowsOf n m numbers words)) (drop (sparseNumbers n m) numbers) (drop (sparseWords m) words) numbers′ words′ r
 
 abbrev pub MeetsRows : (Equation → Equation → Meeting) → ℕ → ℕ → ℕ → ℕ → List ℕ → List ℕ → List ℕ → List ℕ → Met → Type 0
 MeetsRows f n m i j numbers words numbers′ words′ r =
