@@ -10,11 +10,12 @@ use Rattle.areas.proofs.Offsets.{row-next, row-before}
 use Rattle.gf2.specs.Equation.{Equation, eqn}
 use Rattle.gf2.specs.Result.{Result}
 use Rattle.answers.specs.Sizes.{sparseNumbers, sparseWords}
-use Rattle.rows.specs.Picture.{Drawn, Held, Became, rowsOf, rowAt, swapped}
-use Rattle.rows.proofs.Holding.{row-narrow, row-length, row-first, held}
+use Rattle.rows.specs.Picture.{Held, Became, rowsOf, rowAt, swapped}
+use Rattle.rows.proofs.Holding.{row-narrow, row-first, held}
 use Rattle.sparse_rows.specs.Loop.{meetLoop, StandsAt}
-use Rattle.sparse_rows.proofs.Forward.{blank, full, row-in, meet-pass, meet-swap}
-use Rattle.sparse_rows.proofs.Rounds.{stands-turn}
+use Rattle.sparse_rows.specs.Reduce.{Alike}
+use Rattle.sparse_rows.proofs.Forward.{full, row-in, meet-pass, meet-swap}
+use Rattle.sparse_rows.proofs.Rounds.{stands-turn, stands-filled}
 
 -- u is what row i begins with, and row k begins at q
 pub record Passing (n m d i : ℕ) (o : Result (List Equation)) (rest rest′ numbers words : List ℕ) (u k q : ℕ) : Type 0 where
@@ -22,10 +23,10 @@ pub record Passing (n m d i : ℕ) (o : Result (List Equation)) (rest rest′ nu
   pub first : u ≡ getD numbers (i * n) 0
   pub place : q ≡ k * n
 
-pub passing-begin : {n m d i j : ℕ} {numbers words : List ℕ} → Held n m numbers words → i < j → j ≤ d → d ≤ m
+pub passing-begin : {n m d i j : ℕ} {numbers words : List ℕ} → Held n m numbers words → i < j → j ≤ d → d ≤ m → getD numbers (m * n + n + i) 0 ≢ 0
     → Passing n m d i (meetLoop (d - j) i j (rowsOf n m numbers words)) (drop (sparseNumbers n m) numbers) (drop (sparseWords m) words) numbers words (getD numbers (i * n) 0) j (j * n)
-passing-begin {n} {m} {numbers = numbers} {words} k h g l =
-    record { stands = record { rows = rowsOf n m numbers words; drawn = k; i-below = h; j-in = g; d-in = l; future = refl }; first = refl; place = refl }
+passing-begin {n} {m} {i = i} {numbers = numbers} {words} k h g l f =
+    record { stands = record { rows = rowsOf n m numbers words; drawn = k; i-below = h; j-in = g; d-in = l; filled = full k i (omega arith) f; future = refl }; first = refl; place = refl }
 
 module _ {n m d i : ℕ} {o : Result (List Equation)} {rest rest′ numbers words : List ℕ} {u k q : ℕ} (s : Passing n m d i o rest rest′ numbers words u k q) where
   pub passing-held : Held n m numbers words
@@ -52,7 +53,7 @@ module _ {n m d i : ℕ} {o : Result (List Equation)} {rest rest′ numbers word
     passing-above l =
         let e : getD numbers q 0 ≡ getD numbers (k * n) 0 = ap (λ (x : ℕ). getD numbers x 0) (s .place) in
         record {
-          stands = stands-turn (s .stands) h (meet-pass passing-held i k (s .stands .i-below) k-in (omega (arith, s .first))) refl;
+          stands = stands-turn (s .stands) h (meet-pass passing-held i k (s .stands .i-below) k-in (stands-filled (s .stands)) (omega (arith, s .first))) refl;
           first = s .first;
           place = next;
         }
@@ -68,7 +69,7 @@ module _ {n m d i : ℕ} {o : Result (List Equation)} {rest rest′ numbers word
           → Passing n m d i o rest rest′ numbers′ words′ (getD numbers q 0) (k + 1) (q + n)
       passing-swap {numbers′} {words′} b =
           record {
-            stands = stands-turn (s .stands) h (meet-swap passing-held i k (s .stands .i-below) k-in f begun below numbers′ words′ b) refl;
+            stands = stands-turn (s .stands) h (meet-swap passing-held i k (s .stands .i-below) k-in f (stands-filled (s .stands)) below numbers′ words′ b) refl;
             first = ap (λ (x : ℕ). getD numbers x 0) (s .place) ∙ row-first passing-held k k-in wide ∙ sym (row-first b i i-in wide ∙ ap (λ (e : Equation). getD (e .vars) 0 0) now-i);
             place = next;
           }
@@ -79,6 +80,9 @@ module _ {n m d i : ℕ} {o : Result (List Equation)} {rest rest′ numbers word
               getD-set-other (set (rowsOf n m numbers words) i (rowAt (rowsOf n m numbers words) k)) k i (rowAt (rowsOf n m numbers words) i) (eqn [] 0) ne
               ∙ getD-set-same (rowsOf n m numbers words) i (rowAt (rowsOf n m numbers words) k) (eqn [] 0) (omega (arith, i-in, passing-held .count))
 
-          -- row i begins above 0, and so it has variables
-          begun : getD numbers (m * n + n + i) 0 ≢ 0
-          begun z = omega (arith, below, row-first passing-held i i-in wide, blank (rowAt (rowsOf n m numbers words) i .vars) (sym (row-length passing-held i i-in) ∙ z))
+    -- row k begins as row i does, or has no variables
+    pub passing-same : getD numbers q 0 ≡ u → Alike n m i k numbers
+    passing-same e = record { filled = stands-filled (s .stands); same = λ _. sym (s .first) ∙ sym e ∙ ap (λ (x : ℕ). getD numbers x 0) (s .place) }
+
+    pub passing-empty : getD numbers (m * n + n + k) 0 ≡ 0 → Alike n m i k numbers
+    passing-empty e = record { filled = stands-filled (s .stands); same = λ f. absurd (f e) }

@@ -4,7 +4,7 @@ use Prim.Native.Nat.{ℕ, _-_}
 use lib.ListN.{length}
 use Rattle.rows.proofs.Holding.{held}
 use Rattle.sparse_rows.specs.Reduce.{Passes}
-use Rattle.sparse_rows.proofs.Rounds.{stands-turn, passes-none, passes-turn, round-wrong, round-blank, round-begin, round-passed, round-clash, round-identity, round-end}
+use Rattle.sparse_rows.proofs.Rounds.{stands-turn, stands-filled, passes-none, passes-turn, round-wrong, round-blank, round-begin, round-passed, round-clash, round-identity, round-end}
 use borrow.Author.Needs.{needs}
 use native.Mathlib.Omega.{arith}
 use Rattle.sparse_rows.proofs.echelon.outer_row.Statement.{statement}
@@ -32,9 +32,9 @@ outer-row-spec =
     (λ c. let s = c .before .before .before .before .before .before in round-wrong (s .pre .0) (s .pre .1) (s .pre .2) (c .before .before .if1 .taken) (c .if2 .taken))  -- returns
     (λ c. let s = c .before .before .before .before .before .before in round-blank (s .pre .0) (s .pre .1) (s .pre .2) (c .before .before .if1 .taken) (c .if2 .left))  -- returns-2
     (λ c. search needs)  -- add-pass-rows
-    (λ c κs. let s = c .before .before .before .before .before .before in (s .pre .0, omega arith, omega (arith, s .pre .1), s .pre .2))  -- pass-rows-requires
-    (λ c. (passes-none (c .before .before .before .before .pass-rows .ensures .stands), refl, refl))  -- loop-holds
-    (λ c κs. let s = c .before .before .before .before .before .before .before .before .before .before .before .before .before .before .before in let p = c .before .before .before .loop .inv .0 .stands in (held (p .drawn), p .i-below, omega (arith, c .before .before .loop-test .taken, s .pre .2), s .pre .3))  -- meet-rows-requires
+    (λ c κs. let s = c .before .before .before .before .before .before in (s .pre .0, omega arith, omega (arith, s .pre .1), s .pre .2, c .before .before .if1 .left))  -- pass-rows-requires
+    (λ c. let p = c .before .before .before .before .pass-rows .ensures in (passes-none (p .stands) (p .alike), refl, refl))  -- loop-holds
+    (λ c κs. let s = c .before .before .before .before .before .before .before .before .before .before .before .before .before .before .before in let p = c .before .before .before .loop .inv .0 in (held (p .stands .drawn), p .stands .i-below, omega (arith, c .before .before .loop-test .taken, s .pre .2), s .pre .3, p .alike (c .before .before .loop-test .taken)))  -- meet-rows-requires
     (λ c. search needs)  -- enum-told
     (λ c. search needs)  -- same-length
     (λ c. search needs)  -- same-length-2
@@ -45,7 +45,7 @@ outer-row-spec =
     (λ c. let s = c .before .before .before .before .before .before .before .before .before .before .before .before .before .before .before .before .before .before .before .before .before .before in let r = round-passed (round-passed (round-begin (s .pre .0) (s .pre .1) (s .pre .2) (c .before .before .before .before .before .before .before .before .before .before .before .before .before .before .before .before .before .before .if1 .left)) (c .before .before .before .before .before .before .before .before .before .before .before .before .before .before .before .pass-rows .ensures)) (c .before .before .before .before .before .before .before .before .before .before .loop .inv .0) in round-identity r (c .before .before .before .before .before .before .before .before .before .loop-test .taken) (c .before .before .before .before .before .before .meet-rows .ensures) (c .enum-told2 .given .1))  -- returns-4
     (λ c. search needs)  -- enum-told-3
     (λ c. search needs)  -- add-pass-rows-2
-    (λ c κs. let t = stands-turn (c .before .before .before .before .before .before .before .before .before .before .before .before .loop .inv .0 .stands) (c .before .before .before .before .before .before .before .before .before .before .before .loop-test .taken) (c .before .before .before .before .before .before .before .before .meet-rows .ensures) (c .before .before .enum-told3 .given .1) in (held (t .drawn), t .i-below, t .j-in, t .d-in))  -- pass-rows-requires-2
+    (λ c κs. let t = stands-turn (c .before .before .before .before .before .before .before .before .before .before .before .before .loop .inv .0 .stands) (c .before .before .before .before .before .before .before .before .before .before .before .loop-test .taken) (c .before .before .before .before .before .before .before .before .meet-rows .ensures) (c .before .before .enum-told3 .given .1) in (held (t .drawn), t .i-below, t .j-in, t .d-in, stands-filled t))  -- pass-rows-requires-2
     (λ c. let f = c .before .before .before .before .pass-rows2 .ensures .from in search needs)  -- loop-less
     (λ c. (passes-turn (c .before .before .before .before .before .before .before .before .before .before .before .before .before .before .before .before .before .loop .inv .0) (c .before .before .before .before .before .before .before .before .before .before .before .before .before .before .before .before .loop-test .taken) (c .before .before .before .before .before .before .before .before .before .before .before .before .before .meet-rows .ensures) (c .before .before .before .before .before .before .before .enum-told3 .given .1) (c .before .before .before .before .pass-rows2 .ensures), search needs, search needs))  -- loop-again
     (λ c. search needs)  -- same-length-5
