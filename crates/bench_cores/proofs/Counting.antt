@@ -1,8 +1,8 @@
 -- The walks that count: the degree of a vertex, and the lowest crowd.
 use mathlib.Core.Path.{_≡_, refl, sym, ap, _∙_}
-use mathlib.Core.List.{List, [], _∷_}
+use mathlib.Core.List.{List, _∷_}
 use mathlib.Core.Bool.{Bool, true, false, cond, not}
-use Prim.Native.Nat.{ℕ, zero, suc, _+_, _≤_, _<_}
+use Prim.Native.Nat.{ℕ, suc, _+_, _≤_, _<_}
 use native.Mathlib.Numerals.{add-one}
 use native.Mathlib.Omega.{arith}
 use borrow.Author.Count.{below-more}
@@ -14,7 +14,7 @@ use Rattle.peeling.specs.declared.numbers.Edge.{Edge}
 use Rattle.peel_rules.specs.Edges.{edge, touches, bump, degree}
 use Rattle.peel_rules.specs.Core.{pick}
 use Rattle.peel_rules.specs.Peel.{crowd, crowdedVertex}
-use Rattle.peel_rules.proofs.PeelCrowd.{Lowest, lowest-is}
+use Rattle.peel_rules.proofs.PeelCrowd.{lowest-is}
 use Rattle.areas.proofs.Stretch.{take-replicate}
 use Rattle.bench_cores.specs.Counted.{living, aliveOf, counted}
 use Rattle.bench_cores.proofs.Living.{living-all}

@@ -6,10 +6,10 @@ use Prim.Native.Nat.{ℕ, zero, suc, _+_, _≤_, _<_}
 use native.Mathlib.Omega.{arith}
 use lib.Dec.{eqb}
 use lib.ListN.{length, getD, set, replicate}
-use borrow.Author.Tests.{eq-eqb, ne-eqb, eqb-true, eqb-false}
+use borrow.Author.Tests.{ne-eqb, eqb-false}
 use Rattle.peeling.specs.declared.numbers.Edge.{Edge}
 use Rattle.peel_rules.specs.Edges.{edge, touches, bump, degree}
-use Rattle.peel_rules.specs.Core.{Tight, pick, Within}
+use Rattle.peel_rules.specs.Core.{pick, Within}
 use Rattle.bench_cores.specs.Counted.{living}
 
 pub length-living : (bytes : List ℕ) → length (living bytes) ≡ length bytes

@@ -17,7 +17,7 @@ use Rattle.peel_rules.specs.Core.{Tight, pick, Within, Core}
 use Rattle.peel_rules.proofs.PeelBasic.{touches-a, touches-b, touches-c}
 use Rattle.peel_rules.proofs.PeelCore.{vertex, core-unique}
 use Rattle.bench_cores.specs.Counted.{living, aliveOf, hangsBy, edgeNo, OneStrip, dead, stays, goes, Strips, OutsideCore}
-use Rattle.bench_cores.proofs.Living.{length-living, within-all, within-degree, TouchedBy, touched-by, fewer-alive, within-without}
+use Rattle.bench_cores.proofs.Living.{length-living, within-all, within-degree, touched-by, fewer-alive, within-without}
 use Rattle.bench_cores.proofs.Counting.{all-alive}
 
 -- ---- edges that hang

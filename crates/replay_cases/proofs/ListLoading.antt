@@ -4,22 +4,19 @@ use mathlib.Core.Bool.{Bool, true, false, _&&_}
 use mathlib.Core.List.{List, [], _∷_}
 use Prim.Native.Nat.{ℕ, suc, _+_, _-_, _*_, _≤_, _<_}
 use native.Mathlib.Nat.{suc-mul}
-use native.Mathlib.Numerals.{add-one}
 use native.Mathlib.Omega.{arith}
 use lib.Dec.{leb}
 use lib.ListN.{length, take, drop, set, length-set}
-use lib.Seq.{drop-drop}
+use lib.Seq.{drop-drop, length-take-le}
 use borrow.Author.Tests.{leb-true, le-leb, lt-leb}
 use Rattle.areas.specs.Stretch.{stretch, put}
 use Rattle.areas.proofs.Stretch.{put-none, put-append, put-comm, length-put, set-is-put}
 use Rattle.answers.specs.Calls.{pick}
 use Rattle.link_form.specs.Bytes.{little, field, fields}
 use Rattle.link_form.proofs.Scanning.{length-fields}
-use Rattle.io.specs.Counts.{Counts}
 use Rattle.replay_cases.specs.declared.lists.ListHead.{ListHead}
 use Rattle.replay_cases.specs.declared.lists.Loaded.{Loaded}
-use Rattle.replay_cases.specs.Lists.{noList, wholeList, headAt, missing, loads, loadedOf, cellsOf}
-use Rattle.replay_cases.proofs.Counting.{counted}
+use Rattle.replay_cases.specs.Lists.{noList, wholeList, headAt, missing, loads, Loads}
 
 -- ---- a list that was found is all there
 
@@ -127,22 +124,17 @@ loads-wide widest n head h = rw (lt-leb (head .width) widest h) (and-false (leb 
 pub loads-fit : (widest n : ℕ) (head : ListHead) → head .count ≤ n → head .width ≤ widest → loads widest n head ≡ true
 loads-fit widest n head h g = rw (le-leb (head .count) n h, le-leb (head .width) widest g)
 
--- what holds at the end of a call
-abbrev pub Ends : ℕ → ListHead → List ℕ → List ℕ → Loaded → List ℕ → Type 0
-Ends widest head bytes before said out =
-    (said ≡ loadedOf widest (length before) head) × ((out ≡ cellsOf widest head bytes before) × Counts (said .count) out)
+pub ends-missing : (widest at : ℕ) (found : ListHead) (bytes out : List ℕ) (said : Loaded) → found ≡ headAt at bytes → said ≡ missing → loads widest (length out) found ≡ false
+    → Loads widest at bytes out said out
+ends-missing widest at found bytes out said e m l =
+    rw (← e, l, m) (omega arith, refl, refl, refl)
 
-pub ends-missing : (widest : ℕ) (found head : ListHead) (bytes out : List ℕ) (said : Loaded) → found ≡ head → said ≡ missing → loads widest (length out) found ≡ false
-    → Ends widest head bytes out said out
-ends-missing widest found head bytes out said e m l =
-    rw (← e, l, m) (refl, (refl, counted 0 out (omega arith)))
-
-pub ends-loaded : (widest : ℕ) (found head : ListHead) (bytes before out : List ℕ) (p : ℕ) → found ≡ head → loads widest (length before) found ≡ true
+pub ends-loaded : (widest at : ℕ) (found : ListHead) (bytes before out : List ℕ) (p : ℕ) → found ≡ headAt at bytes → loads widest (length before) found ≡ true
     → found .count ≤ length before
     → (p ≡ found .at + found .count * found .width) × (out ≡ put 0 (fields (found .width) (found .count) (drop (found .at) bytes)) before)
-    → Ends widest head bytes before (record { count = found .count; next = p }) out
-ends-loaded widest found head bytes before out p e l h w =
+    → Loads widest at bytes before (record { count = found .count; next = p }) out
+ends-loaded widest at found bytes before out p e l h w =
     let n : length out ≡ length before =
     ap length (w .1) ∙ length-put 0 (fields (found .width) (found .count) (drop (found .at) bytes)) before (rw length-fields (omega arith)) in
-    let k = counted (found .count) out (omega arith) in
-    rw (← e, l, w .0) (refl, (w .1, k))
+    let k : found .count ≤ length out = omega arith in
+    rw (← e, l, w .0) (k, sym (length-take-le (found .count) out k), refl, w .1)

@@ -1,9 +1,10 @@
 -- The lists of a case, and what loading one says and leaves.
+use mathlib.Core.Path.{_≡_}
 use mathlib.Core.Bool.{Bool, _&&_}
 use mathlib.Core.List.{List}
-use Prim.Native.Nat.{ℕ, _+_, _*_}
+use Prim.Native.Nat.{ℕ, _+_, _*_, _≤_}
 use lib.Dec.{leb}
-use lib.ListN.{length, drop}
+use lib.ListN.{length, take, drop}
 use Rattle.areas.specs.Stretch.{put}
 use Rattle.answers.specs.Calls.{pick}
 use Rattle.link_form.specs.Bytes.{field, fields}
@@ -38,3 +39,9 @@ loadedOf widest n head = pick (loads widest n head) (record { count = head .coun
 -- the numbers at the front of the cells, or the cells as they were
 abbrev pub cellsOf : ℕ → ListHead → List ℕ → List ℕ → List ℕ
 cellsOf widest head bytes out = pick (loads widest (length out) head) (put 0 (fields (head .width) (head .count) (drop (head .at) bytes)) out) out
+
+-- what loading the list at `at` says and leaves; the first two parts, which follow from the others, are what `&out[..count]` asks for
+abbrev pub Loads : ℕ → ℕ → List ℕ → List ℕ → Loaded → List ℕ → Type 0
+Loads widest at bytes before said out =
+    (said .count ≤ length out) × (said .count ≡ length (take (said .count) out)) × (said ≡ loadedOf widest (length before) (headAt at bytes))
+    × (out ≡ cellsOf widest (headAt at bytes) bytes before)

@@ -2,9 +2,7 @@
 use link_form::read_number;
 ghost use mathlib.Core.Path.{_≡_};
 ghost use Prim.Native.Nat.{_≤_, _<_};
-ghost use lib.ListN.{length};
-ghost use Rattle.io.specs.Counts.{Counts};
-ghost use Rattle.replay_cases.specs.Lists.{noList, wholeList, headAt, missing, loadedOf, cellsOf};
+ghost use Rattle.replay_cases.specs.Lists.{noList, wholeList, headAt, missing, Loads};
 
 // How many numbers were read, and where the next list begins: past every end where the list was broken.
 pub struct Loaded {
@@ -69,9 +67,7 @@ fn head_at(bytes: &[u8], at: usize) -> ListHead
 
 // Reads the list at `at` to the front of `out`, which stays as it is where there is no such list or no room for it.
 pub fn load_words(bytes: &[u8], at: usize, out: &mut [u64]) -> Loaded
-    ensures { λ r. ⌜ r ≡ loadedOf 8 (length (now (out .entry))) (headAt at (now (bytes .entry))) ⌝ }
-    ensures { λ _. ⌜ now (out .exit) ≡ cellsOf 8 (headAt at (now (bytes .entry))) (now (bytes .entry)) (now (out .entry)) ⌝ }
-    ensures { λ r. ⌜ Counts (r .count) (now (out .exit)) ⌝ }
+    ensures { λ r. ⌜ Loads 8 at (now (bytes .entry)) (now (out .entry)) r (now (out .exit)) ⌝ }
 {
     let head = head_at(bytes, at);
     let width = head.width;
@@ -91,9 +87,7 @@ pub fn load_words(bytes: &[u8], at: usize, out: &mut [u64]) -> Loaded
 
 // Reads the list at `at` so, if its numbers have at most four bytes.
 pub fn load_numbers(bytes: &[u8], at: usize, out: &mut [u32]) -> Loaded
-    ensures { λ r. ⌜ r ≡ loadedOf 4 (length (now (out .entry))) (headAt at (now (bytes .entry))) ⌝ }
-    ensures { λ _. ⌜ now (out .exit) ≡ cellsOf 4 (headAt at (now (bytes .entry))) (now (bytes .entry)) (now (out .entry)) ⌝ }
-    ensures { λ r. ⌜ Counts (r .count) (now (out .exit)) ⌝ }
+    ensures { λ r. ⌜ Loads 4 at (now (bytes .entry)) (now (out .entry)) r (now (out .exit)) ⌝ }
 {
     let head = head_at(bytes, at);
     let width = head.width;

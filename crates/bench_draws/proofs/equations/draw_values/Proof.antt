@@ -1,6 +1,5 @@
 use Prim.Native.Nat.{_-_}
 use lib.ListN.{length}
-use Prim.Native.Nat.{ℕ, _/_, _^_}
 use Rattle.bench_draws.proofs.Drawing.{Values, values-begin, values-turn, values-end}
 use borrow.Author.Needs.{needs}
 use Rattle.bench_draws.proofs.equations.draw_values.Statement.{statement}

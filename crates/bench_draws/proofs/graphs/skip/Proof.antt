@@ -1,6 +1,5 @@
 use native.Mathlib.Omega.{arith}
 use borrow.Author.Tests.{lt-ltb, le-ltb}
-use mathlib.Core.Path.{refl}
 use borrow.Author.Needs.{needs}
 use Rattle.bench_draws.proofs.graphs.skip.Statement.{statement}
 use Rattle.bench_draws.proofs.graphs.skip.Tie as tie

@@ -1,4 +1,3 @@
-use native.Mathlib.Omega.{arith}
 use Prim.Native.Nat.{_-_}
 use borrow.Author.Needs.{needs}
 use Rattle.link_form.proofs.Reading.{narrow-fits}
@@ -16,14 +15,14 @@ returns : tie.Need-returns Inv-loop μ-loop
 returns c =
     let a = c .before .before .before .before .before .args in
     let h = c .before .before .head-at in
-    ends-missing 4 (h .result) _ (a .bytes .now) (a .out .now) (c .broken .result) (h .ensures) (c .broken .ensures)
+    ends-missing 4 (a .at) (h .result) (a .bytes .now) (a .out .now) (c .broken .result) (h .ensures) (c .broken .ensures)
     (loads-short 4 _ (h .result) (c .before .if1 .taken))
 
 returns-2 : tie.Need-returns-2 Inv-loop μ-loop
 returns-2 c =
     let a = c .before .before .before .before .before .before .args in
     let h = c .before .before .before .head-at in
-    ends-missing 4 (h .result) _ (a .bytes .now) (a .out .now) (c .broken2 .result) (h .ensures) (c .broken2 .ensures)
+    ends-missing 4 (a .at) (h .result) (a .bytes .now) (a .out .now) (c .broken2 .result) (h .ensures) (c .broken2 .ensures)
     (loads-wide 4 _ (h .result) (c .before .if2 .taken))
 
 loop-holds : tie.Need-loop-holds Inv-loop μ-loop
@@ -53,7 +52,7 @@ returns-3 c =
     let h = c .before .before .before .before .head-at in
     let l = c .before .loop in
     let s = c .before .before .before .if1 .left in
-    ends-loaded 4 (h .result) _ (a .bytes .now) (a .out .now) (l .out) (l .p) (h .ensures) (loads-fit 4 _ (h .result) s (c .before .before .if2 .left)) s
+    ends-loaded 4 (a .at) (h .result) (a .bytes .now) (a .out .now) (l .out) (l .p) (h .ensures) (loads-fit 4 _ (h .result) s (c .before .before .if2 .left)) s
     (loading-end (l .inv) (c .loop-test .left))
 
 pub load-numbers-spec : {M : Type 1} → statement M

@@ -1,4 +1,3 @@
-use native.Mathlib.Omega.{arith}
 use Prim.Native.Nat.{_-_}
 use borrow.Author.Needs.{needs}
 use Rattle.replay_cases.proofs.ListLoading.{head-fits, Loading, loading-begin, loading-room, loading-turn, loading-end, loads-short, loads-fit, ends-missing, ends-loaded}
@@ -15,7 +14,7 @@ returns : tie.Need-returns Inv-loop μ-loop
 returns c =
     let a = c .before .before .before .before .before .args in
     let h = c .before .before .head-at in
-    ends-missing 8 (h .result) _ (a .bytes .now) (a .out .now) (c .broken .result) (h .ensures) (c .broken .ensures)
+    ends-missing 8 (a .at) (h .result) (a .bytes .now) (a .out .now) (c .broken .result) (h .ensures) (c .broken .ensures)
     (loads-short 8 _ (h .result) (c .before .if1 .taken))
 
 loop-holds : tie.Need-loop-holds Inv-loop μ-loop
@@ -41,7 +40,7 @@ returns-2 c =
     let a = c .before .before .before .before .before .before .args in
     let h = c .before .before .before .head-at in
     let l = c .before .loop in
-    ends-loaded 8 (h .result) _ (a .bytes .now) (a .out .now) (l .out) (l .p) (h .ensures)
+    ends-loaded 8 (a .at) (h .result) (a .bytes .now) (a .out .now) (l .out) (l .p) (h .ensures)
     (loads-fit 8 _ (h .result) (c .before .before .if1 .left) (l .inv .narrow)) (c .before .before .if1 .left) (loading-end (l .inv) (c .loop-test .left))
 
 pub load-words-spec : {M : Type 1} → statement M
