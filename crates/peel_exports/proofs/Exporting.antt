@@ -62,7 +62,7 @@ module _ (peel : ℕ → List Edge → List ℕ → List ℕ → List ℕ → Pe
   module _ (κx κw κy κz : Lft) (qx qw qy qz : Share) (n : ℕ) (x : RefT (List Edge)) (w : RefT (List ℕ)) (y : RefT (List ℕ)) (z : RefT (List ℕ))
       (n-fits : n < 2 ^ 64) (x-room : Room Edgeᴿ.the-row (length (now x))) (w-room : Room u64 (length (now w))) (y-room : Room u32 (length (now y))) (z-room : Room u8 (length (now z))) where
     abbrev vals : Vals self.signature (κx, (κw, (κy, (κz, tt))))
-    vals = (vint w64 (n) ∷ [], (val x ∷ [], (val w ∷ [], (val y ∷ [], (val z ∷ [], tt)))))
+    vals = (vint w64 n ∷ [], (val x ∷ [], (val w ∷ [], (val y ∷ [], (val z ∷ [], tt)))))
 
     abbrev bound : walkOf 𝓤 H A self.ended stayed (told-says peel 𝓤) .Ghost
     bound = (((κx, (κw, (κy, (κz, tt)))), (qx, (qw, (qy, (qz, tt)))), tt, (n, (x, (w, (y, (z, tt))))), vals), tt)
@@ -77,9 +77,9 @@ module _ (peel : ℕ → List Edge → List ℕ → List ℕ → List ℕ → Pe
         nothing ! $ move ! (4 ∷ 0 ∷ []) $ fjoin ! $ move ! (3 ∷ 0 ∷ []) $ fjoin ! $ move ! (2 ∷ 0 ∷ []) $ fjoin ! $ move ! (1 ∷ 0 ∷ []) $ fjoin ! $ nothing ! $ fjoin ! $ frame ! $ owned ! Toldᴿ.the-row (Is Toldᴿ.the-row) (LL.makes Toldᴿ.the-type Toldᴸ.the-plain 𝓤 H A) res _ is $ done !
 
     module _ (𝓣 : Tables 𝓤 H) (fm : FmC 𝓤 H (W .laws) (𝓣 .C)) (known-peel : Triple 𝓤 (𝓣 .C #callee) (Peelerᶜ peel 𝓤 H A)) (known-tell : Triple 𝓤 (𝓣 .C tell-def.name) (Tellᶜ 𝓤 H A at-mem run)) where
-      walk : ent 𝓤 (onEntry 𝓤 H A self.signature (κx, (κw, (κy, (κz, tt)))) (qx, (qw, (qy, (qz, tt)))) (n, (x, (w, (y, (z, tt))))) vals) (WpFn 𝓤 H (𝓣 .C) (𝓣 .Λ) (telling #callee) (vint w64 (n) ∷ val x ∷ val w ∷ val y ∷ val z ∷ []) Post)
+      walk : ent 𝓤 (onEntry 𝓤 H A self.signature (κx, (κw, (κy, (κz, tt)))) (qx, (qw, (qy, (qz, tt)))) (n, (x, (w, (y, (z, tt))))) vals) (WpFn 𝓤 H (𝓣 .C) (𝓣 .Λ) (telling #callee) (vint w64 n ∷ val x ∷ val w ∷ val y ∷ val z ∷ []) Post)
       walk =
-          qed W ((‵ (flft κx qx) ⊛ ‵ (flft κw qw) ⊛ ‵ (flft κy qy) ⊛ ‵ (flft κz qz) ⊛ ‵ ftrue) ∷ ‵ (owns (usize ∷ ShrSlice (named 0) κx Edgeᴿ.the-row ∷ MutSlice (named 1) κw u64 ∷ MutSlice (named 2) κy u32 ∷ MutSlice (named 3) κz u8 ∷ []) (n, (x, (w, (y, (z, tt))))) vals) ∷ []) ∵ enter ! (𝓣 .C) (𝓣 .Λ) (telling #callee) (vint w64 (n) ∷ val x ∷ val w ∷ val y ∷ val z ∷ []) _ $
+          qed W ((‵ (flft κx qx) ⊛ ‵ (flft κw qw) ⊛ ‵ (flft κy qy) ⊛ ‵ (flft κz qz) ⊛ ‵ ftrue) ∷ ‵ (owns (usize ∷ ShrSlice (named 0) κx Edgeᴿ.the-row ∷ MutSlice (named 1) κw u64 ∷ MutSlice (named 2) κy u32 ∷ MutSlice (named 3) κz u8 ∷ []) (n, (x, (w, (y, (z, tt))))) vals) ∷ []) ∵ enter ! (𝓣 .C) (𝓣 .Λ) (telling #callee) (vint w64 n ∷ val x ∷ val w ∷ val y ∷ val z ∷ []) _ $
           alloc1 ! (λ l₀. alloc1 ! (λ l₁. alloc1 ! (λ l₂. alloc1 ! (λ l₃. alloc1 ! (λ l₄. alloc1 ! (λ l₅. alloc1 ! (λ l₆. alloc1 ! (λ l₇. alloc1 ! (λ l₈. alloc1 ! (λ l₉. alloc1 ! (λ l₁₀. alloc1 ! (λ l₁₁. alloc1 ! (λ l₁₂. alloc0 ! $ params1 ! $
           pass1 ! (init ! 22 refl (tt, record { fits = n-fits })) $ pass1 ! (init ! 20 refl (tt, (tt, (record { fits = x-room .0 }, tt)))) $ pass1 ! (init ! 18 refl (tt, (tt, (record { fits = w-room .0 }, tt)))) $ pass1 ! (init ! 16 refl (tt, (tt, (record { fits = y-room .0 }, tt)))) $ pass1 ! (init ! 14 refl (tt, (tt, (record { fits = z-room .0 }, tt)))) $ pass0 ! $
           move ! (26 ∷ []) $ split ! $ move ! (1 ∷ []) $ split ! $ move ! (1 ∷ []) $ split ! $ move ! (1 ∷ []) $ split ! $ move ! (31 ∷ []) $ fsplit ! $ move ! (1 ∷ []) $ fsplit ! $ move ! (1 ∷ []) $ fsplit ! $ move ! (1 ∷ []) $ fsplit ! $ move ! (1 ∷ []) $ fsplit ! $

@@ -1,17 +1,16 @@
 -- The shared call is each peeler's.
+use mathlib.Core.Path.{_≡_, refl}
 use mathlib.Core.List.{List}
 use mathlib.Core.Bool.{true, false}
 use Prim.Native.Nat.{ℕ}
 use Rattle.peeling.specs.declared.numbers.Edge.{Edge}
 use Rattle.peel_rules.specs.Calls.{peelHighCall, peelLowCall}
-use Rattle.peel_gates.specs.declared.ends.Peeling.{Peeling}
-use Rattle.peel_runs.specs.Runs.{Leaves}
 use Rattle.peel_calls.specs.Judging.{peelingCall}
 
-pub high-leaves : (n : ℕ) (T : List Edge) (cells numbers bytes : List ℕ) {r : Peeling} {x d b : List ℕ} → Leaves (peelingCall true n T cells numbers bytes) r x d b → Leaves (peelHighCall n T cells numbers bytes) r x d b
+pub high-call : (n : ℕ) (T : List Edge) (cells numbers bytes : List ℕ) → peelingCall true n T cells numbers bytes ≡ peelHighCall n T cells numbers bytes
 unfolding peelingCall
-high-leaves n T cells numbers bytes l = l
+high-call n T cells numbers bytes = refl
 
-pub low-leaves : (n : ℕ) (T : List Edge) (cells numbers bytes : List ℕ) {r : Peeling} {x d b : List ℕ} → Leaves (peelingCall false n T cells numbers bytes) r x d b → Leaves (peelLowCall n T cells numbers bytes) r x d b
+pub low-call : (n : ℕ) (T : List Edge) (cells numbers bytes : List ℕ) → peelingCall false n T cells numbers bytes ≡ peelLowCall n T cells numbers bytes
 unfolding peelingCall
-low-leaves n T cells numbers bytes l = l
+low-call n T cells numbers bytes = refl

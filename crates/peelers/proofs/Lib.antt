@@ -1,4 +1,5 @@
 pub mod CallRules
+pub mod CallWalk
 pub mod EitherCall
 pub mod ProgramRules
 pub mod ProgramWalk

@@ -25,17 +25,17 @@ module _ {M : Type 1} (𝓤 : URA M) (H : Heap 𝓤) (A : Atoms 𝓤) (at-mem : 
   abbrev pub to-at-most-256 : (m : ℕ) → AtMost256ᶜ .Ghost
   to-at-most-256 m = ((tt, tt, tt, (m, tt), (vint w64 m ∷ [], tt)), tt)
 
--- either peeler's, over the definition of its call
-module _ (peel : ℕ → List Edge → List ℕ → List ℕ → List ℕ → PeelCall) {M : Type 1} (𝓤 : URA M) (H : Heap 𝓤) (A : Atoms 𝓤) where
-  abbrev peeler-says : Clauses 𝓤 peeler.ended
-  peeler-says κs a = record {
-    ghost = Unit {0};
-    requires = λ _. emp 𝓤;
-    ensures = λ _ r e. fact 𝓤 (Leaves (peel (a .0) (now (a .1 .0)) (now (a .1 .1 .0)) (now (a .1 .1 .1 .0)) (now (a .1 .1 .1 .1 .0))) r (now (e .1 .1 .0)) (now (e .1 .1 .1 .0)) (now (e .1 .1 .1 .1 .0)));
-  }
+-- what either peeler promises, over the definition of its call
+abbrev pub peeler-says : (ℕ → List Edge → List ℕ → List ℕ → List ℕ → PeelCall) → {M : Type 1} (𝓤 : URA M) → Clauses 𝓤 peeler.ended
+peeler-says peel 𝓤 κs a = record {
+  ghost = Unit {0};
+  requires = λ _. emp 𝓤;
+  ensures = λ _ r e. fact 𝓤 (Leaves (peel (a .0) (now (a .1 .0)) (now (a .1 .1 .0)) (now (a .1 .1 .1 .0)) (now (a .1 .1 .1 .1 .0))) r (now (e .1 .1 .0)) (now (e .1 .1 .1 .0)) (now (e .1 .1 .1 .1 .0)));
+}
 
+module _ (peel : ℕ → List Edge → List ℕ → List ℕ → List ℕ → PeelCall) {M : Type 1} (𝓤 : URA M) (H : Heap 𝓤) (A : Atoms 𝓤) where
   abbrev pub Peelerᶜ : Contract 𝓤
-  Peelerᶜ = tripleOf 𝓤 H A peeler.signature (closing 𝓤 H A peeler.ended peeler-says)
+  Peelerᶜ = tripleOf 𝓤 H A peeler.signature (closing 𝓤 H A peeler.ended (peeler-says peel 𝓤))
 
   abbrev pub to-peeler : (n : ℕ) (κx : Lft) (qx : Share) (x : RefT (List Edge)) (νw : ℕ) (δw : GName) (w : RefT (List ℕ)) (s : List ℕ) (νy : ℕ) (δy : GName) (y : RefT (List ℕ)) (d : List ℕ) (νz : ℕ) (δz : GName) (z : RefT (List ℕ)) (b : List ℕ) → Peelerᶜ .Ghost
   to-peeler n κx qx x νw δw w s νy δy y d νz δz z b = (((κx, (νw ∷ [], (νy ∷ [], (νz ∷ [], tt)))), (qx, (fullShare, (fullShare, (fullShare, tt)))), tt, (n, (x, (at w δw s, (at y δy d, (at z δz b, tt))))), (vint w64 n ∷ [], (val x ∷ [], (val w ∷ [], (val y ∷ [], (val z ∷ [], tt)))))), tt)
@@ -66,7 +66,7 @@ module _ {M : Type 1} {𝓤 : URA M} {H : Heap 𝓤} {A : Atoms 𝓤} {K : Type 
   calls-peeler t fm peel #callee known n n-fits κx qx x κw qw w s long-w room-w κy qy y d long-y room-y κz qz z b long-z room-z os k =
       use1 W (‵ (Shr Edgeᴿ.the-row κx x) ⊛ ‵ (Shr Edgeᴿ.the-row κx x)) (shr-slice-copy 𝓤 H A W (named 0) κx Edgeᴿ.the-row .twice x (val x ∷ [])) $ split t $ move t (3 ∷ 4 ∷ []) $ lends t tt u64 κw qw w s long-w (λ νw δw. move t (6 ∷ 7 ∷ []) $ lends t tt u32 κy qy y d long-y (λ νy δy. move t (9 ∷ 10 ∷ []) $ lends t tt u8 κz qz z b long-z (λ νz δz. move t (3 ∷ 0 ∷ []) $ join t $ move t (5 ∷ 0 ∷ []) $ join t $ move t (9 ∷ 0 ∷ []) $ join t $ move t (3 ∷ 1 ∷ []) $ join t $ move t (4 ∷ 0 ∷ []) $ join t $ move t (6 ∷ 0 ∷ []) $ join t $ use2 W (raw (Peelerᶜ peel 𝓤 H A .pre (to-peeler peel 𝓤 H A n κx qx x νw δw w s νy δy y d νz δz z b))) (goes νw δw νy δy νz δz) $ nothing t $ nothing t $ nothing t $ move t (3 ∷ []) $
       calls-at t fm (Peelerᶜ peel 𝓤 H A) known (to-peeler peel 𝓤 H A n κx qx x νw δw w s νy δy y d νz δz z b) (os νw δw νy δy νz δz) (λ v.
-      use1 W (later (some (λ (res : Peeling). ((‵ (flft κx qx) ⊛ ‵ (flft (νw ∷ []) fullShare) ⊛ ‵ (flft (νy ∷ []) fullShare) ⊛ ‵ (flft (νz ∷ []) fullShare) ⊛ ‵ ftrue) ⊛ ‵ (Peelingᴿ.the-row .own res (v ∷ []))) ⊛ raw (ensured 𝓤 H A peeler.ended (peeler-says peel 𝓤 H A) (κx, (νw ∷ [], (νy ∷ [], (νz ∷ [], tt)))) (n, (x, (at w δw s, (at y δy d, (at z δz b, tt))))) tt res)))) (id⊢ 𝓤 _) $ await t tt $ pick t (λ res. split t $ move t (1 ∷ []) $
+      use1 W (later (some (λ (res : Peeling). ((‵ (flft κx qx) ⊛ ‵ (flft (νw ∷ []) fullShare) ⊛ ‵ (flft (νy ∷ []) fullShare) ⊛ ‵ (flft (νz ∷ []) fullShare) ⊛ ‵ ftrue) ⊛ ‵ (Peelingᴿ.the-row .own res (v ∷ []))) ⊛ raw (ensured 𝓤 H A peeler.ended (peeler-says peel 𝓤) (κx, (νw ∷ [], (νy ∷ [], (νz ∷ [], tt)))) (n, (x, (at w δw s, (at y δy d, (at z δz b, tt))))) tt res)))) (id⊢ 𝓤 _) $ await t tt $ pick t (λ res. split t $ move t (1 ∷ []) $
       use1 W (some (λ (zs : (Unit {0} × (Unit {0} × (List ℕ × (List ℕ × (List ℕ × Unit {0})))))). ‵ (lasts peeler.ended (κx, (νw ∷ [], (νy ∷ [], (νz ∷ [], tt)))) (n, (x, (at w δw s, (at y δy d, (at z δz b, tt))))) zs) ⊛ raw (fact 𝓤 (Leaves (peel n (now x) s d b) res (zs .1 .1 .0) (zs .1 .1 .1 .0) (zs .1 .1 .1 .1 .0))))) (id⊢ 𝓤 _) $ pick t (λ zs. split t $ move t (1 ∷ []) $ heard t (Leaves (peel n (now x) s d b) res (zs .1 .1 .0) (zs .1 .1 .1 .0) (zs .1 .1 .1 .1 .0)) (λ said.
       fsplit t $ let-go t $ fsplit t $ let-go t $ fsplit t $ fsplit t $ move t (1 ∷ []) $ feqL t (λ len-w. move t (1 ∷ []) $ fsplit t $ fsplit t $ move t (1 ∷ []) $ feqL t (λ len-y. move t (1 ∷ []) $ fsplit t $ fsplit t $ move t (1 ∷ []) $ feqL t (λ len-z. move t (1 ∷ []) $ let-go t $ move t (3 ∷ []) $ split t $ move t (1 ∷ []) $ facts t Peelingᴿ.the-row (Is Peelingᴿ.the-row) (shows 𝓤 H A Peelingᴿ.the-row) res (v ∷ []) (λ is.
       split t $ move t (1 ∷ []) $ split t $ move t (1 ∷ []) $ split t $ move t (1 ∷ []) $ split t $ move t (1 ∷ []) $ let-go t $ move t (9 ∷ []) $ let-go t $ move t (8 ∷ []) $ let-go t $ move t (7 ∷ []) $ let-go t $ move t (2 ∷ 9 ∷ 6 ∷ []) $ backs t tt u64 κw qw w s long-w room-w νw δw (zs .1 .1 .0) len-w $ move t (3 ∷ 8 ∷ 6 ∷ []) $ backs t tt u32 κy qy y d long-y room-y νy δy (zs .1 .1 .1 .0) len-y $ move t (4 ∷ 7 ∷ 6 ∷ []) $ backs t tt u8 κz qz z b long-z room-z νz δz (zs .1 .1 .1 .1 .0) len-z $ move t (7 ∷ 6 ∷ 4 ∷ 5 ∷ 2 ∷ 3 ∷ 0 ∷ 1 ∷ []) $

@@ -1,7 +1,7 @@
 -- The walk of a peeler for programs: `peel_high_of` and `peel_low_of` differ only in the peeler that they call and in the definition of its call.
 --     peeling #callee      their code: the array in a local of its own is lent in part as a `&[Edge]`, for a lifetime that is made for the call, and is taken back
 --     program-says         what they promise, over the definition of the peeler's call
---     peels                they keep it where the peeler keeps its promise
+--     peels-of             they keep it where the peeler keeps its promise
 -- All that is known of a callee is its contract. Assumes nothing.
 use Rattle.walk_rules.proofs.Walk.{_≡_, refl, sym, _∙_, ap, subst, ℕ, _<_, _≤_, _^_, arith, List, [], _∷_, length, T, URA, fullShare, Ty, named, erased, imm, mut, w8, w32, w64, tyInt, tyRef, Val, vint, SProp, ent, emp, via, fst∗, Lft, GName, Share, ftrue, fat, flft, Memory, Routine, Heap, WpFn, Tables, Atoms, sem, Fun, fact, givenOf, tables, tablesOf, Given, ‵, _⊛_, some, later, ⋆, _$_, _∵_, !, qed, by, move, let-go, use1, use2, split, join, pick, rewrite, fsplit, fjoin, feqI, suffices, frame, await, done, agg, whole, sub, look-in, look, init, forget, stop, hop, fld, from, load, addr, of-opd, and-then, no-more, assigns, land, returns, enter, alloc1, alloc0, params1, pass1, pass0, free1, free0, lft-new, lft-end, FmC, fmOf, WpFn-mono, yes, RattleType, owns, Is, shows, mem, pointee, uint-vals, uint-tells, u8, u32, u64, usize, RefT, now, plain, sliceTy, sliceVal, MutSlice, Room, slice-vals, mut-slice-tells, only, owned, nothing, spelt, Triple, Vals, onEntry, Meets, tripleOf, entered, cited, says, Stays, stay-slice, walkOf, Walks, ends-at, walked, goes-slice, walk-meets}
 use mathlib.Core.List.{_++_}
@@ -186,11 +186,11 @@ module _ (peel : ℕ → List Edge → List ℕ → List ℕ → List ℕ → Pe
     meets = walk-meets 𝓤 H A self.ended stayed W (goes-dropped 𝓤 H A W 3 (arrayOf (plain (λ _. Edgeᴿ.the-row)) 256) yes (λ κs x f. refl), (goes-dropped 𝓤 H A W 3 (plain (λ _. usize)) yes (λ κs x f. refl), (goes-dropped 𝓤 H A W 3 (plain (λ _. usize)) yes (λ κs x f. refl), (goes-slice 𝓤 H A W 3 0 tt (plain (λ _. u64)), (goes-slice 𝓤 H A W 3 1 tt (plain (λ _. u32)), (goes-slice 𝓤 H A W 3 2 tt (plain (λ _. u8)), tt)))))) (program-says peel 𝓤)
         (WpFn 𝓤 H (𝓣 .C) (𝓣 .Λ) (peeling #callee)) (WpFn-mono 𝓤 H (W .laws) 𝓣 (peeling #callee)) walks
 
-pub peels : (peel : ℕ → List Edge → List ℕ → List ℕ → List ℕ → PeelCall) (#callee #self : Name) (env : Meanings) (r : Routine) → env at-most-256-def.name ≡ at-most-256-def.routine → env #callee ≡ r
+pub peels-of : (peel : ℕ → List Edge → List ℕ → List ℕ → List ℕ → PeelCall) (#callee #self : Name) (env : Meanings) (r : Routine) → env at-most-256-def.name ≡ at-most-256-def.routine → env #callee ≡ r
     → {M : Type 1} (𝓤 : URA M) (H : Heap 𝓤) (𝓜 : Model 𝓤 H) (𝓖 : GhostRules 𝓤 H) (𝓡 : Running 𝓤 H 𝓜) → Closed 𝓤 H (tables 𝓤 H 𝓜 𝓡 env .C) (tables 𝓤 H 𝓜 𝓡 env .Λ) #self (peeling #callee)
     → Triple 𝓤 (𝓡 .run r) (Peelerᶜ peel 𝓤 H (𝓖 .A)) → Meets 𝓤 H (𝓖 .A) self.signature (𝓡 .run (env #self)) (closing 𝓤 H (𝓖 .A) self.ended (program-says peel 𝓤))
 unfolding tablesOf
-peels peel #callee #self env r counts calls 𝓤 H 𝓜 𝓖 𝓡 closed met =
+peels-of peel #callee #self env r counts calls 𝓤 H 𝓜 𝓖 𝓡 closed met =
     entered 𝓤 H (tripleOf 𝓤 H (𝓖 .A) self.signature (closing 𝓤 H (𝓖 .A) self.ended (program-says peel 𝓤))) (tables 𝓤 H 𝓜 𝓡 env .C) (tables 𝓤 H 𝓜 𝓡 env .Λ) #self (peeling #callee) closed
     (meets peel #callee 𝓤 H (𝓖 .A) (givenOf 𝓤 H 𝓜 𝓖) (𝓜 .mem) (𝓡 .run) (tablesOf 𝓤 H 𝓜 (tables 𝓤 H 𝓜 𝓡 env))
     (cited 𝓤 H (AtMost256ᶜ 𝓤 H (𝓖 .A) (𝓜 .mem) (𝓡 .run)) 𝓜 𝓡 env at-most-256-def.name at-most-256-def.routine counts (at-most-256-thm.met 𝓤 H 𝓜 𝓖 𝓡))

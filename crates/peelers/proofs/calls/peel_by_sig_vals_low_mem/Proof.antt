@@ -1,79 +1,11 @@
--- `peel_by_sig_vals_low_mem` meets its contract.
--- A walk of the MIR: the calls are rules of this crate's files, and all that is known of a callee is its contract. Assumes nothing.
-use Rattle.walk_rules.proofs.Walk.{_≡_, refl, ℕ, _<_, _^_, List, [], _∷_, false, length, URA, named, w64, Val, vint, SProp, ent, emp, via, fst∗, Lft, Share, ftrue, flft, Memory, Routine, Heap, WpFn, Tables, Atoms, Fun, givenOf, tables, tablesOf, Given, ‵, _⊛_, ⋆, _$_, _∵_, !, qed, by, move, let-go, split, join, fsplit, fjoin, suffices, frame, done, agg, whole, sub, look-in, look, init, forget, stop, hop, fld, from, load, addr, false-lit, and-then, no-more, assigns, land, returns, enter, alloc1, alloc0, params1, pass1, pass0, free1, free0, FmC, fmOf, WpFn-mono, yes, owns, Is, mem, uint-vals, uint-tells, u8, u32, u64, usize, RefT, now, plain, ShrSlice, MutSlice, Room, slice-vals, shr-slice-tells, mut-slice-tells, only, owned, nothing, Triple, Vals, onEntry, Meets, tripleOf, entered, cited, says, Stays, stay-none-slice, stay-slice, walkOf, Walks, ends-at, walked, goes-none-slice, goes-slice, walk-meets}
-use denote.Struct.Laws as LL
-use denote.Triple.Walked.{stay-dropped, goes-dropped}
-use Rattle.peeling.specs.declared.numbers.Edge.{Edge}
-use Rattle.peeling.proofs.numbers.Edge as Edgeᴿ
-use Rattle.peel_gates.specs.declared.ends.Peeling.{Peeling}
-use Rattle.peel_gates.proofs.ends.Peeling as Peelingᴿ
-use Rattle.peel_gates.proofs.ends.Peeling.Laws as Peelingᴸ
-use Rattle.walk_rules.proofs.Lent.{val, Shr, Mut}
-use Rattle.peelers.proofs.CallRules.{PeelBySigValsᶜ, calls-peel-by-sig-vals}
-use Rattle.peelers.proofs.EitherCall.{low-leaves}
-use Rattle.peel_calls.proofs.call.peel_by_sig_vals.Symbol as peel-by-sig-vals-def
-use Rattle.peel_calls.proofs.call.peel_by_sig_vals.Met as peel-by-sig-vals-thm
+use mathlib.Core.Bool.{false}
+use Rattle.peel_rules.specs.Calls.{peelLowCall}
+use Rattle.peelers.proofs.EitherCall.{low-call}
+use Rattle.peelers.proofs.CallWalk.{peels}
 use Rattle.peelers.proofs.calls.peel_by_sig_vals_low_mem.Key.{name as #self}
-use Rattle.peelers.proofs.calls.peel_by_sig_vals_low_mem as self
 use Rattle.peelers.proofs.calls.peel_by_sig_vals_low_mem.Statement as stated
 use Rattle.peelers.proofs.calls.peel_by_sig_vals_low_mem.Code as code
-use Rattle.peel_runs.specs.Runs.{Leaves}
-use Rattle.peel_rules.specs.Calls.{peelLowCall}
-
-abbrev stayed : Stays (self.ended .signature .params) (self.ended .kept)
-stayed = (stay-dropped (plain (λ _. usize)) yes, (stay-none-slice (0 ∷ []) tt (plain (λ _. Edgeᴿ.the-row)) yes, (stay-slice (1 ∷ []) tt (plain (λ _. u64)), (stay-slice (2 ∷ []) tt (plain (λ _. u32)), (stay-slice (3 ∷ []) tt (plain (λ _. u8)), tt)))))
-
-module _ {M : Type 1} (𝓤 : URA M) (H : Heap 𝓤) (A : Atoms 𝓤) (W : Given 𝓤 H A) (at-mem : Memory → SProp 𝓤) (run : Routine → Fun 𝓤) (κx κw κy κz : Lft) (qx qw qy qz : Share) (n : ℕ) (x : RefT (List Edge)) (w : RefT (List ℕ)) (y : RefT (List ℕ)) (z : RefT (List ℕ))
-    (n-fits : n < 2 ^ 64) (x-room : Room Edgeᴿ.the-row (length (now x))) (w-room : Room u64 (length (now w))) (y-room : Room u32 (length (now y))) (z-room : Room u8 (length (now z))) where
-  abbrev vals : Vals self.signature (κx, (κw, (κy, (κz, tt))))
-  vals = (vint w64 (n) ∷ [], (val x ∷ [], (val w ∷ [], (val y ∷ [], (val z ∷ [], tt)))))
-
-  abbrev bound : walkOf 𝓤 H A self.ended stayed (self.clauses 𝓤 H A at-mem run) .Ghost
-  bound = (((κx, (κw, (κy, (κz, tt)))), (qx, (qw, (qy, (qz, tt)))), tt, (n, (x, (w, (y, (z, tt))))), vals), tt)
-
-  abbrev Post : Val → SProp 𝓤
-  Post = walkOf 𝓤 H A self.ended stayed (self.clauses 𝓤 H A at-mem run) .post bound
-
-  exits : (res : Peeling) (zw : List ℕ) (zy : List ℕ) (zz : List ℕ) → (Leaves (peelLowCall n (now x) (now w) (now y) (now z)) res zw zy zz) → length zw ≡ length (now w) → length zy ≡ length (now y) → length zz ≡ length (now z) → Is Peelingᴿ.the-row res (LL.vals Peelingᴿ.the-type Peelingᴸ.the-laws res) → ent 𝓤 (⋆ 𝓤 H A (‵ (Shr Edgeᴿ.the-row κx x) ∷ ‵ (flft κx qx) ∷ ‵ (Mut u64 κw w zw) ∷ ‵ (flft κw qw) ∷ ‵ (Mut u32 κy y zy) ∷ ‵ (flft κy qy) ∷ ‵ (Mut u8 κz z zz) ∷ ‵ (flft κz qz) ∷ [])) (Post (only (LL.vals Peelingᴿ.the-type Peelingᴸ.the-laws res)))
-  exits res zw zy zz e lw ly lz is =
-      qed W (‵ (Shr Edgeᴿ.the-row κx x) ∷ ‵ (flft κx qx) ∷ ‵ (Mut u64 κw w zw) ∷ ‵ (flft κw qw) ∷ ‵ (Mut u32 κy y zy) ∷ ‵ (flft κy qy) ∷ ‵ (Mut u8 κz z zz) ∷ ‵ (flft κz qz) ∷ []) ∵ suffices ! _ (ends-at 𝓤 H A self.ended stayed (self.clauses 𝓤 H A at-mem run) W bound (only (LL.vals Peelingᴿ.the-type Peelingᴸ.the-laws res)) res (tt, (tt, (zw, (zy, (zz, tt))))) (tt, (tt, (lw, (ly, (lz, tt)))))) $ says ! e $
-      nothing ! $ move ! (8 ∷ 0 ∷ []) $ join ! $ move ! (6 ∷ 0 ∷ []) $ join ! $ move ! (4 ∷ 0 ∷ []) $ join ! $ move ! (2 ∷ 0 ∷ []) $ join ! $ frame ! $
-      nothing ! $ move ! (4 ∷ 0 ∷ []) $ fjoin ! $ move ! (3 ∷ 0 ∷ []) $ fjoin ! $ move ! (2 ∷ 0 ∷ []) $ fjoin ! $ move ! (1 ∷ 0 ∷ []) $ fjoin ! $ nothing ! $ fjoin ! $ frame ! $ owned ! Peelingᴿ.the-row (Is Peelingᴿ.the-row) (LL.makes Peelingᴿ.the-type Peelingᴸ.the-plain 𝓤 H A) res _ is $ done !
-
-  module _ (𝓣 : Tables 𝓤 H) (fm : FmC 𝓤 H (W .laws) (𝓣 .C)) (known-peel-by-sig-vals : Triple 𝓤 (𝓣 .C peel-by-sig-vals-def.name) (PeelBySigValsᶜ 𝓤 H A at-mem run)) where
-    walk : ent 𝓤 (onEntry 𝓤 H A self.signature (κx, (κw, (κy, (κz, tt)))) (qx, (qw, (qy, (qz, tt)))) (n, (x, (w, (y, (z, tt))))) vals) (WpFn 𝓤 H (𝓣 .C) (𝓣 .Λ) code.function (vint w64 (n) ∷ val x ∷ val w ∷ val y ∷ val z ∷ []) Post)
-    walk =
-        qed W ((‵ (flft κx qx) ⊛ ‵ (flft κw qw) ⊛ ‵ (flft κy qy) ⊛ ‵ (flft κz qz) ⊛ ‵ ftrue) ∷ ‵ (owns (usize ∷ ShrSlice (named 0) κx Edgeᴿ.the-row ∷ MutSlice (named 1) κw u64 ∷ MutSlice (named 2) κy u32 ∷ MutSlice (named 3) κz u8 ∷ []) (n, (x, (w, (y, (z, tt))))) vals) ∷ []) ∵ enter ! (𝓣 .C) (𝓣 .Λ) code.function (vint w64 (n) ∷ val x ∷ val w ∷ val y ∷ val z ∷ []) _ $
-        alloc1 ! (λ l₀. alloc1 ! (λ l₁. alloc1 ! (λ l₂. alloc1 ! (λ l₃. alloc1 ! (λ l₄. alloc1 ! (λ l₅. alloc1 ! (λ l₆. alloc1 ! (λ l₇. alloc1 ! (λ l₈. alloc1 ! (λ l₉. alloc1 ! (λ l₁₀. alloc1 ! (λ l₁₁. alloc0 ! $ params1 ! $
-        pass1 ! (init ! 20 refl (tt, record { fits = n-fits })) $ pass1 ! (init ! 18 refl (tt, (tt, (record { fits = x-room .0 }, tt)))) $ pass1 ! (init ! 16 refl (tt, (tt, (record { fits = w-room .0 }, tt)))) $ pass1 ! (init ! 14 refl (tt, (tt, (record { fits = y-room .0 }, tt)))) $ pass1 ! (init ! 12 refl (tt, (tt, (record { fits = z-room .0 }, tt)))) $ pass0 ! $
-        move ! (24 ∷ []) $ split ! $ move ! (1 ∷ []) $ split ! $ move ! (1 ∷ []) $ split ! $ move ! (1 ∷ []) $ split ! $ move ! (29 ∷ []) $ fsplit ! $ move ! (1 ∷ []) $ fsplit ! $ move ! (1 ∷ []) $ fsplit ! $ move ! (1 ∷ []) $ fsplit ! $ move ! (1 ∷ []) $ fsplit ! $
-        move ! (1 ∷ 7 ∷ 5 ∷ 4 ∷ 10 ∷ 3 ∷ 9 ∷ 2 ∷ 8 ∷ 0 ∷ 6 ∷ []) $ let-go ! $ let-go ! $ let-go ! $
-        assigns ! (addr ! (from ! (fld ! refl (hop ! (look-in ! 24 (sub ! 0 refl (whole !))) (stop !))))) (from ! (stop !)) (init ! 18 refl (tt, tt)) $
-        assigns ! (agg ! (and-then ! (load ! (from ! (stop !)) (look ! 18 refl)) (and-then ! (load ! (from ! (fld ! refl (stop !))) (look-in ! 24 (sub ! 1 refl (whole !)))) (no-more !)))) (from ! (stop !)) (init ! 16 refl (tt, (tt, (record { fits = w-room .0 }, tt)))) $
-        assigns ! (addr ! (from ! (fld ! refl (hop ! (look-in ! 22 (sub ! 0 refl (whole !))) (stop !))))) (from ! (stop !)) (init ! 14 refl (tt, tt)) $
-        assigns ! (agg ! (and-then ! (load ! (from ! (stop !)) (look ! 14 refl)) (and-then ! (load ! (from ! (fld ! refl (stop !))) (look-in ! 22 (sub ! 1 refl (whole !)))) (no-more !)))) (from ! (stop !)) (init ! 12 refl (tt, (tt, (record { fits = y-room .0 }, tt)))) $
-        assigns ! (addr ! (from ! (fld ! refl (hop ! (look-in ! 20 (sub ! 0 refl (whole !))) (stop !))))) (from ! (stop !)) (init ! 10 refl (tt, tt)) $
-        assigns ! (agg ! (and-then ! (load ! (from ! (stop !)) (look ! 10 refl)) (and-then ! (load ! (from ! (fld ! refl (stop !))) (look-in ! 20 (sub ! 1 refl (whole !)))) (no-more !)))) (from ! (stop !)) (init ! 8 refl (tt, (tt, (record { fits = z-room .0 }, tt)))) $
-        calls-peel-by-sig-vals ! fm at-mem run known-peel-by-sig-vals κx qx x false n n-fits κw qw w (now w) refl w-room κy qy y (now y) refl y-room κz qz z (now z) refl z-room
-        (λ ν0 δ0 ν1 δ1 ν2 δ2. and-then ! (load ! (from ! (stop !)) (look ! 26 refl)) (and-then ! (false-lit !) (and-then ! (load ! (from ! (stop !)) (look ! 28 refl)) (and-then ! (load ! (from ! (stop !)) (look ! 16 refl)) (and-then ! (load ! (from ! (stop !)) (look ! 12 refl)) (and-then ! (load ! (from ! (stop !)) (look ! 8 refl)) (no-more !))))))) (λ r0 z0w z0y z0z s0 l0w l0y l0z i0.
-        land ! (from ! (stop !)) (init ! 30 refl (LL.lawful Peelingᴿ.the-type Peelingᴸ.the-laws 𝓤 H A W .typed r0 _ i0 .0)) $
-        returns ! (look ! 30 refl) $ forget ! 8 refl $ forget ! 10 refl $ forget ! 12 refl $ forget ! 14 refl $ forget ! 16 refl $ forget ! 18 refl $ forget ! 20 refl $ forget ! 22 refl $ forget ! 24 refl $ forget ! 26 refl $ forget ! 28 refl $ forget ! 30 refl $
-        move ! (30 ∷ 31 ∷ 28 ∷ 29 ∷ 26 ∷ 27 ∷ 24 ∷ 25 ∷ 22 ∷ 23 ∷ 20 ∷ 21 ∷ 18 ∷ 19 ∷ 16 ∷ 17 ∷ 14 ∷ 15 ∷ 12 ∷ 13 ∷ 10 ∷ 11 ∷ 8 ∷ 9 ∷ []) $ free1 ! $ free1 ! $ free1 ! $ free1 ! $ free1 ! $ free1 ! $ free1 ! $ free1 ! $ free1 ! $ free1 ! $ free1 ! $ free1 ! $ free0 ! $
-        by ! (exits r0 z0w z0y z0z (low-leaves n (now x) (now w) (now y) (now z) s0) l0w l0y l0z i0))))))))))))))
-
-module _ {M : Type 1} (𝓤 : URA M) (H : Heap 𝓤) (A : Atoms 𝓤) (W : Given 𝓤 H A) (at-mem : Memory → SProp 𝓤) (run : Routine → Fun 𝓤) (𝓣 : Tables 𝓤 H) (known-peel-by-sig-vals : Triple 𝓤 (𝓣 .C peel-by-sig-vals-def.name) (PeelBySigValsᶜ 𝓤 H A at-mem run)) where
-  walks : Walks 𝓤 H A self.ended stayed (WpFn 𝓤 H (𝓣 .C) (𝓣 .Λ) code.function) (self.clauses 𝓤 H A at-mem run)
-  walks = walked 𝓤 H A self.ended stayed (self.clauses 𝓤 H A at-mem run) (WpFn 𝓤 H (𝓣 .C) (𝓣 .Λ) code.function) (λ κs. (uint-vals w64, (slice-vals, (slice-vals, (slice-vals, (slice-vals, tt)))))) (λ κs. (uint-tells w64, (shr-slice-tells (named 0) (κs .0) Edgeᴿ.the-row, (mut-slice-tells (named 1) (κs .1 .0) u64, (mut-slice-tells (named 2) (κs .1 .1 .0) u32, (mut-slice-tells (named 3) (κs .1 .1 .1 .0) u8, tt))))))
-      (λ κs qs bounds a g are. via 𝓤 _ (fst∗ 𝓤 _ (emp 𝓤)) (walk 𝓤 H A W at-mem run (κs .0) (κs .1 .0) (κs .1 .1 .0) (κs .1 .1 .1 .0) (qs .0) (qs .1 .0) (qs .1 .1 .0) (qs .1 .1 .1 .0) (a .0) (a .1 .0) (a .1 .1 .0) (a .1 .1 .1 .0) (a .1 .1 .1 .1 .0) (are .0 .1) (are .1 .0 .0 .1) (are .1 .1 .0 .0 .1) (are .1 .1 .1 .0 .0 .1) (are .1 .1 .1 .1 .0 .0 .1) 𝓣 (fmOf 𝓤 H (W .laws) 𝓣) known-peel-by-sig-vals))
-
-  meets : Meets 𝓤 H A self.signature (WpFn 𝓤 H (𝓣 .C) (𝓣 .Λ) code.function) (self.spec 𝓤 H A at-mem run)
-  meets = walk-meets 𝓤 H A self.ended stayed W (goes-dropped 𝓤 H A W 4 (plain (λ _. usize)) yes (λ κs x f. refl), (goes-none-slice 𝓤 H A W 4 (0 ∷ []) tt (plain (λ _. Edgeᴿ.the-row)) yes, (goes-slice 𝓤 H A W 4 1 tt (plain (λ _. u64)), (goes-slice 𝓤 H A W 4 2 tt (plain (λ _. u32)), (goes-slice 𝓤 H A W 4 3 tt (plain (λ _. u8)), tt))))) (self.clauses 𝓤 H A at-mem run)
-      (WpFn 𝓤 H (𝓣 .C) (𝓣 .Λ) code.function) (WpFn-mono 𝓤 H (W .laws) 𝓣 code.function) walks
 
 pub peel-by-sig-vals-low-mem-spec : {M : Type 1} → stated.statement M
-unfolding code.routine tablesOf
-peel-by-sig-vals-low-mem-spec 𝓤 H 𝓜 𝓖 𝓡 =
-    entered 𝓤 H (tripleOf 𝓤 H (𝓖 .A) self.signature (self.spec 𝓤 H (𝓖 .A) (𝓜 .mem) (𝓡 .run)))
-    (tables 𝓤 H 𝓜 𝓡 code.env .C) (tables 𝓤 H 𝓜 𝓡 code.env .Λ) #self code.function (code.unfolded 𝓤 H 𝓜 𝓡)
-    (meets 𝓤 H (𝓖 .A) (givenOf 𝓤 H 𝓜 𝓖) (𝓜 .mem) (𝓡 .run) (tablesOf 𝓤 H 𝓜 (tables 𝓤 H 𝓜 𝓡 code.env))
-    (cited 𝓤 H (PeelBySigValsᶜ 𝓤 H (𝓖 .A) (𝓜 .mem) (𝓡 .run)) 𝓜 𝓡 code.env peel-by-sig-vals-def.name peel-by-sig-vals-def.routine code.calls-peel-calls·call·peel-by-sig-vals (peel-by-sig-vals-thm.met 𝓤 H 𝓜 𝓖 𝓡)))
+unfolding code.routine
+peel-by-sig-vals-low-mem-spec 𝓤 H 𝓜 𝓖 𝓡 = peels false peelLowCall low-call #self code.env code.calls-peel-calls·call·peel-by-sig-vals 𝓤 H 𝓜 𝓖 𝓡 (code.unfolded 𝓤 H 𝓜 𝓡)
