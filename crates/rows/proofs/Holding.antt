@@ -66,16 +66,16 @@ draw n m rows rest rest′ numbers words a w r c =
     }
 
 module _ {n m : ℕ} {rows : List Equation} {rest rest′ numbers words : List ℕ} (d : Drawn n m rows rest rest′ numbers words) where
-  as-parts : numbers ≡ parts n (map varsOf rows) (map lengthOf rows) ++ rest
+  pub as-parts : numbers ≡ parts n (map varsOf rows) (map lengthOf rows) ++ rest
   as-parts = d .numbers-are ∙ ap (λ (l : List ℕ). l ++ rest) (picture-parts n rows)
 
-  narrow : Narrow n (map varsOf rows)
+  pub narrow : Narrow n (map varsOf rows)
   narrow = rows-narrow n rows (d .rising)
 
-  many : length (map varsOf rows) ≡ m
+  pub many : length (map varsOf rows) ≡ m
   many = length-map rows varsOf ∙ d .count
 
-  all : length (map lengthOf rows) ≡ m
+  pub all : length (map lengthOf rows) ≡ m
   all = length-map rows lengthOf ∙ d .count
 
   constants : length (map constantOf rows) ≡ m
@@ -180,7 +180,7 @@ module _ {n m : ℕ} {rows : List Equation} {rest rest′ numbers words : List �
       ap length (sym (append-nil (parts n (map varsOf rows) (map lengthOf rows))))
       ∙ length-parts n m (map varsOf rows) (map lengthOf rows) [] narrow many all ∙ add-zero (m * n + n + m)
 
-  past-numbers : drop (sparseNumbers n m) numbers ≡ rest
+  pub past-numbers : drop (sparseNumbers n m) numbers ≡ rest
   past-numbers = ap (drop (sparseNumbers n m)) as-parts ∙ drop-at (parts n (map varsOf rows) (map lengthOf rows)) rest (sparseNumbers n m) room-long
 
   past-words : drop (sparseWords m) words ≡ rest′

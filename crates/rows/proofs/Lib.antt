@@ -4,4 +4,5 @@ pub mod Fronting
 pub mod Swapping
 pub mod Adding
 pub mod Loading
+pub mod Emptying
 pub mod Padding

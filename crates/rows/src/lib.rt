@@ -34,6 +34,18 @@ pub fn empty_rows(numbers: &mut [u32], at: usize, lengths: usize, n: usize, m: u
     }
 }
 
+// The room of areas that hold rows becomes zeros, as by `clear`: no more is written than the rows hold.
+pub fn empty(numbers: &mut [u32], words: &mut [u64], n: usize, m: usize)
+    requires { ⌜ Held n m (now numbers) (now words) ⌝ }
+    ensures { λ _. ⌜ now (numbers .exit) ≡ cleared (sparseNumbers n m) (now (numbers .entry)) ⌝ }
+    ensures { λ _. ⌜ now (words .exit) ≡ cleared (sparseWords m) (now (words .entry)) ⌝ }
+{
+    let lens = m * n + n;
+    empty_rows(numbers, 0, lens, n, m);
+    areas::zero::zero_numbers(numbers, lens, lens + m);
+    areas::zero::zero_words(words, 0, m);
+}
+
 // Row `i`, which has no variables, becomes the equation of these variables and this constant.
 pub fn store_row(
     numbers: &mut [u32],

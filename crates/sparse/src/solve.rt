@@ -29,7 +29,7 @@ pub fn run(
 {
     crate::load::load(n, m, starts, vars, constants, numbers, words);
     let r = sparse_rows::solve::solve_rows(numbers, words, n, m, m, solution);
-    rows::clear(numbers, words, n, m);
+    rows::empty(numbers, words, n, m);
     match r {
         Reduction::Unsolvable => Answer::Unsolvable,
         Reduction::Reduced => Answer::Solved,
