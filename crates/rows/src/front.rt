@@ -1,4 +1,4 @@
-// The fronts of two rows change places, eight numbers and then sixteen at a time where there is room.
+// The fronts of two rows change places: eight numbers of short rows, sixteen at a time of others, where there is room.
 ghost use mathlib.Core.Path.{_≡_};
 ghost use Prim.Native.Nat.{_+_, _≤_};
 ghost use lib.ListN.{length};
@@ -31,18 +31,6 @@ fn exchange_sixteen(numbers: &mut [u32], p: usize, q: usize)
     areas::copy::copy_numbers(&b, numbers, p);
 }
 
-// Exchanges eight numbers where `room` allows, none otherwise, and returns how many.
-fn exchange_first(numbers: &mut [u32], p: usize, q: usize, room: usize) -> usize
-    requires { ⌜ (p + room ≤ q) × (q + room ≤ length (now numbers)) ⌝ }
-    ensures { λ r. ⌜ Exchanged (now (numbers .entry)) p q 0 room (now (numbers .exit)) r ⌝ }
-{
-    if room < 8 {
-        return 0;
-    }
-    exchange_eight(numbers, p, q);
-    8
-}
-
 // Exchanges sixteen numbers where `room` allows, one otherwise, and returns how many.
 fn exchange_some(numbers: &mut [u32], p: usize, q: usize, room: usize) -> usize
     requires { ⌜ (1 ≤ room) × (p + room ≤ q) × (q + room ≤ length (now numbers)) ⌝ }
@@ -61,7 +49,13 @@ pub fn exchange_front(numbers: &mut [u32], p: usize, q: usize, k: usize, n: usiz
     requires { ⌜ (k ≤ n) × (p + n ≤ q) × (q + n ≤ length (now numbers)) ⌝ }
     ensures { λ r. ⌜ Exchanged (now (numbers .entry)) p q k n (now (numbers .exit)) r ⌝ }
 {
-    let mut i = exchange_first(numbers, p, q, n);
+    if k <= 8 {
+        if 8 <= n {
+            exchange_eight(numbers, p, q);
+            return 8;
+        }
+    }
+    let mut i = 0;
     while i < k {
         i += exchange_some(numbers, p + i, q + i, n - i);
     }

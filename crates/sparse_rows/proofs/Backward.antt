@@ -2,20 +2,19 @@
 use mathlib.Core.Path.{_≡_, refl, sym, ap, ap₂, _∙_, subst}
 use mathlib.Core.Logic.{_≢_}
 use mathlib.Core.Bool.{Bool, true, false, not, true≢false, false≢true}
-use mathlib.Core.List.{List, [], _∷_, _++_}
+use mathlib.Core.List.{List, [], _∷_}
 use Prim.Native.Nat.{ℕ, zero, suc, _+_, _-_, _*_, _≤_, _<_}
 use native.Mathlib.Omega.{arith}
 use native.Mathlib.Numerals.{add-one}
 use native.Mathlib.Nat.{add-sub-cancel-left}
 use lib.Dec.{eqb}
-use lib.ListN.{length, getD, set, take, drop, replicate, length-set, drop-of-length-le, length-drop}
-use lib.Seq.{drop-cons, take-all, getD-take, length-take-le}
+use lib.ListN.{length, getD, set, take, drop, drop-of-length-le}
+use lib.Seq.{drop-cons, getD-take, length-take-le}
 use lib.Bits.{bitXor}
-use borrow.Author.Tests.{eq-eqb, ne-eqb}
 use Rattle.areas.specs.Stretch.{stretch}
 use Rattle.areas.proofs.Offsets.{row-before}
-use Rattle.gf2.specs.Equation.{Equation, eqn, Each, Rising, evalVars}
-use Rattle.gf2.proofs.Tests.{eqb-same, eqb-ne}
+use Rattle.gf2.specs.Equation.{Equation, eqn, Each, evalVars}
+use Rattle.gf2.proofs.Tests.{eqb-ne}
 use Rattle.gf2.proofs.Each.{each-at, each-map}
 use Rattle.gf2.proofs.Order.{rising-below}
 use Rattle.rows.specs.Picture.{Drawn, rowAt}

@@ -1,27 +1,20 @@
 -- The paths of a meeting, and the turns of the loops over rows.
 use mathlib.Core.Path.{_≡_, refl, sym, ap, ap₂, _∙_, subst}
 use mathlib.Core.Logic.{_≢_}
-use mathlib.Core.List.{List, [], _∷_, _++_, append-assoc}
-use Prim.Native.Nat.{ℕ, zero, suc, pred, _+_, _-_, _*_, _≤_, _<_}
+use mathlib.Core.List.{List, [], _∷_}
+use Prim.Native.Nat.{ℕ, zero, suc, _+_, _*_, _≤_, _<_}
 use native.Mathlib.Omega.{arith}
-use native.Mathlib.Nat.{mul-zero}
-use native.Mathlib.Numerals.{add-one}
-use lib.ListN.{length, getD, set, take, drop, length-set, length-append, length-drop, take-append-drop}
-use lib.Seq.{getD-set-same, getD-set-other, set-getD, set-set, length-take-le, take-at, drop-at, drop-set-lt}
+use lib.ListN.{length, getD, set}
+use lib.Seq.{getD-set-same, getD-set-other, set-getD, set-set}
 use Rattle.areas.proofs.Offsets.{row-before}
 use Rattle.gf2.specs.Equation.{Equation, eqn, sum}
-use Rattle.gf2.specs.Result.{Result, unsolvable, ok}
-use Rattle.answers.specs.Sizes.{sparseNumbers, sparseWords}
-use Rattle.rows.specs.Picture.{Drawn, Kept, Held, Became, rowsOf, rowAt, swapped, added}
-use Rattle.rows.proofs.Holding.{row-narrow, row-length, row-first, row-constant, rest-kept, rows-are, held, carried}
-use Rattle.sparse_rules.specs.Eliminate.{Meeting, clash, identity, both, summed, meeting, outerRow, outerRows, echelonForm}
-use Rattle.sparse_rows.specs.Reduce.{MetBy, clashed, vanished, paired, ReducedBy, refused, reduced, MeetsRows, Reduces, summedWith}
+use Rattle.rows.specs.Picture.{Drawn, rowAt, swapped, added}
+use Rattle.rows.proofs.Holding.{row-narrow, row-length, row-first, row-constant, rest-kept, carried}
+use Rattle.sparse_rules.specs.Eliminate.{meeting}
+use Rattle.sparse_rows.specs.Reduce.{MetBy, clashed, vanished, paired, MeetsRows, summedWith}
 use Rattle.sparse_rows.specs.declared.echelon.Met.{Met}
 use Rattle.sparse_rows.specs.declared.echelon.Met.the-variants.{Clash, Identity, Both}
-use Rattle.sparse_rows.specs.declared.echelon.Reduction.{Reduction}
-use Rattle.sparse_rows.specs.declared.echelon.Reduction.the-variants.{Unsolvable, Reduced}
-use Rattle.sparse_rules.proofs.Cases.{meeting-skip, meeting-clash, meeting-idle, meeting-stay, meeting-swap, meeting-sum, summed-identity, summed-clash, summed-swap, summed-stay}
-use Rattle.sparse_rows.proofs.Loops.{meetLoop, loop-clash, loop-identity, loop-both, loop-over, followed, outer-blank, outer-wrong, outer-loop}
+use Rattle.sparse_rules.proofs.Cases.{meeting-skip, meeting-clash, meeting-stay, meeting-swap, meeting-sum, summed-identity, summed-clash, summed-swap, summed-stay}
 
 -- a list without elements begins with nothing
 blank : (vs : List ℕ) → length vs ≡ 0 → getD vs 0 0 ≡ 0
@@ -78,36 +71,33 @@ module _ {n m : ℕ} {rows : List Equation} {rest rest′ numbers words : List �
       first-j : getD numbers (j * n) 0 ≡ getD (rowAt rows j .vars) 0 0
       first-j = row-first d j l (let g = full i i-in fi in omega (arith, row-narrow d i i-in))
 
-      pub sum-swap : getD numbers (j * n) 0 < getD numbers (i * n) 0 → (numbers′ words′ : List ℕ) → Drawn n m (swapped i j rows) rest rest′ numbers′ words′
+      pub sum-swap : getD numbers (m * n + n + j) 0 ≢ 0 → getD numbers (j * n) 0 < getD numbers (i * n) 0 → (numbers′ words′ : List ℕ) → Drawn n m (swapped i j rows) rest rest′ numbers′ words′
           → MetBy n m i j rows rest rest′ (summedWith (rowAt rows i) (rowAt rows j)) numbers′ words′ Both
-      sum-swap k numbers′ words′ b =
-          paired (rowAt rows j) (rowAt rows i) (summed-swap (rowAt rows i) _ (rowAt rows j) (full i i-in fi) (omega (arith, first i i-in fi, first-j))) b
+      sum-swap fj k numbers′ words′ b =
+          paired (rowAt rows j) (rowAt rows i) (summed-swap (rowAt rows i) _ (rowAt rows j) (full i i-in fi) (omega (arith, first i i-in fi, first-j))) (full j l fj) b
 
       pub sum-stay : getD numbers (i * n) 0 ≤ getD numbers (j * n) 0 → MetBy n m i j rows rest rest′ (summedWith (rowAt rows i) (rowAt rows j)) numbers words Both
       sum-stay k =
-          paired (rowAt rows i) (rowAt rows j) (summed-stay (rowAt rows i) _ (rowAt rows j) (full i i-in fi) (omega (arith, first i i-in fi, first-j))) same-rows
+          paired (rowAt rows i) (rowAt rows j) (summed-stay (rowAt rows i) _ (rowAt rows j) (full i i-in fi) (omega (arith, first i i-in fi, first-j))) (full i i-in fi) same-rows
 
     -- ---- a meeting
 
     pub meet-clash : getD numbers (m * n + n + j) 0 ≡ 0 → getD words j 0 ≢ 0 → MetBy n m i j rows rest rest′ (meeting (rowAt rows i) (rowAt rows j)) numbers words Clash
     meet-clash z ne = clashed (meeting-clash (rowAt rows i) (rowAt rows j) (empty j l z) (λ e. ne (row-constant d j l ∙ e))) (rest-kept d)
 
-    pub meet-skip : getD numbers (m * n + n + j) 0 ≡ 0 → getD words j 0 ≡ 0 → MetBy n m i j rows rest rest′ (meeting (rowAt rows i) (rowAt rows j)) numbers words Both
-    meet-skip z e = paired (rowAt rows i) (rowAt rows j) (meeting-skip (rowAt rows i) (rowAt rows j) (empty j l z) (sym (row-constant d j l) ∙ e)) same-rows
+    pub meet-skip : getD numbers (m * n + n + i) 0 ≢ 0 → getD numbers (m * n + n + j) 0 ≡ 0 → getD words j 0 ≡ 0 → MetBy n m i j rows rest rest′ (meeting (rowAt rows i) (rowAt rows j)) numbers words Both
+    meet-skip fi z e = paired (rowAt rows i) (rowAt rows j) (meeting-skip (rowAt rows i) (rowAt rows j) (empty j l z) (sym (row-constant d j l) ∙ e)) (full i i-in fi) same-rows
 
     module _ (fj : getD numbers (m * n + n + j) 0 ≢ 0) where
-      pub meet-idle : getD numbers (m * n + n + i) 0 ≡ 0 → MetBy n m i j rows rest rest′ (meeting (rowAt rows i) (rowAt rows j)) numbers words Both
-      meet-idle z = paired (rowAt rows i) (rowAt rows j) (meeting-idle (rowAt rows i) (rowAt rows j) (full j l fj) (empty i i-in z)) same-rows
-
       module _ (fi : getD numbers (m * n + n + i) 0 ≢ 0) where
         pub meet-stay : getD numbers (i * n) 0 < getD numbers (j * n) 0 → MetBy n m i j rows rest rest′ (meeting (rowAt rows i) (rowAt rows j)) numbers words Both
         meet-stay k =
-            paired (rowAt rows i) (rowAt rows j) (meeting-stay (rowAt rows i) (rowAt rows j) (full j l fj) (full i i-in fi) (omega (arith, first i i-in fi, first j l fj))) same-rows
+            paired (rowAt rows i) (rowAt rows j) (meeting-stay (rowAt rows i) (rowAt rows j) (full j l fj) (full i i-in fi) (omega (arith, first i i-in fi, first j l fj))) (full i i-in fi) same-rows
 
         pub meet-swap : getD numbers (j * n) 0 < getD numbers (i * n) 0 → (numbers′ words′ : List ℕ) → Drawn n m (swapped i j rows) rest rest′ numbers′ words′
             → MetBy n m i j rows rest rest′ (meeting (rowAt rows i) (rowAt rows j)) numbers′ words′ Both
         meet-swap k numbers′ words′ b =
-            paired (rowAt rows j) (rowAt rows i) (meeting-swap (rowAt rows i) (rowAt rows j) (full j l fj) (full i i-in fi) (omega (arith, first i i-in fi, first j l fj))) b
+            paired (rowAt rows j) (rowAt rows i) (meeting-swap (rowAt rows i) (rowAt rows j) (full j l fj) (full i i-in fi) (omega (arith, first i i-in fi, first j l fj))) (full j l fj) b
 
         -- equal first variables: the sum, and what came of it
         module _ (same : getD numbers (i * n) 0 ≡ getD numbers (j * n) 0) {numbers₁ words₁ : List ℕ} (b : Drawn n m (added i j rows) rest rest′ numbers₁ words₁) where
@@ -135,28 +125,24 @@ module _ {n m : ℕ} {rows : List Equation} {rest rest′ numbers words : List �
               → MetBy n m i j rows rest rest′ (meeting (rowAt rows i) (rowAt rows j)) numbers₂ words₂ r
           onward (clashed e k) = clashed (sym is-sum ∙ e) k
           onward {numbers₂} {words₂} (vanished i′ e k) = vanished i′ (sym is-sum ∙ e) (subst (λ (r : List Equation). Drawn n m r rest rest′ numbers₂ words₂) (over i′) k)
-          onward {numbers₂} {words₂} (paired i′ j′ e k) =
-              paired i′ j′ (sym is-sum ∙ e) (subst (λ (r : List Equation). Drawn n m r rest rest′ numbers₂ words₂) (ap (λ (r : List Equation). set r j j′) (over i′)) k)
+          onward {numbers₂} {words₂} (paired i′ j′ e f k) =
+              paired i′ j′ (sym is-sum ∙ e) f (subst (λ (r : List Equation). Drawn n m r rest rest′ numbers₂ words₂) (ap (λ (r : List Equation). set r j j′) (over i′)) k)
+
+          -- row j is as it was
+          pub sum-filled : getD numbers₁ (m * n + n + j) 0 ≢ 0
+          sum-filled z = full j l fj (ap (λ (e : Equation). length (e .vars)) (sym at-j) ∙ sym (row-length b j l) ∙ z)
 
           pub meet-sum : {numbers₂ words₂ : List ℕ} {r : Met} → MeetsRows summedWith n m i j numbers₁ words₁ numbers₂ words₂ r → MetBy n m i j rows rest rest′ (meeting (rowAt rows i) (rowAt rows j)) numbers₂ words₂ r
           meet-sum {numbers₂} {words₂} {r} k =
               onward (carried b (λ rows₁ x y. MetBy n m i j rows₁ x y (summedWith (rowAt rows₁ i) (rowAt rows₁ j)) numbers₂ words₂ r) k)
 
     -- row j begins above row i: it has variables, as an empty row begins with 0
-    pub meet-pass : getD numbers (i * n) 0 < getD numbers (j * n) 0 → MetBy n m i j rows rest rest′ (meeting (rowAt rows i) (rowAt rows j)) numbers words Both
-    meet-pass k = by-j (getD numbers (m * n + n + j) 0) refl
+    pub meet-pass : getD numbers (m * n + n + i) 0 ≢ 0 → getD numbers (i * n) 0 < getD numbers (j * n) 0 → MetBy n m i j rows rest rest′ (meeting (rowAt rows i) (rowAt rows j)) numbers words Both
+    meet-pass fi k = by-j (getD numbers (m * n + n + j) 0) refl
       where
         wide : 0 < n
-        wide = by-n n refl
-          where
-            by-n : (x : ℕ) → n ≡ x → 0 < n
-            by-n zero e = absurd (let a : i * n ≡ j * n = rw (e, mul-zero i, mul-zero j) in let b : getD numbers (i * n) 0 ≡ getD numbers (j * n) 0 = ap (λ (x : ℕ). getD numbers x 0) a in omega arith)
-            by-n (suc x) e = omega arith
-
-        by-i : getD numbers (m * n + n + j) 0 ≢ 0 → (x : ℕ) → getD numbers (m * n + n + i) 0 ≡ x → MetBy n m i j rows rest rest′ (meeting (rowAt rows i) (rowAt rows j)) numbers words Both
-        by-i f zero e = meet-idle f e
-        by-i f (suc x) e = meet-stay f (λ z. omega arith) k
+        wide = let g = full i i-in fi in omega (arith, row-narrow d i i-in)
 
         by-j : (x : ℕ) → getD numbers (m * n + n + j) 0 ≡ x → MetBy n m i j rows rest rest′ (meeting (rowAt rows i) (rowAt rows j)) numbers words Both
         by-j zero e = absurd (omega (arith, row-first d j l wide, blank (rowAt rows j .vars) (empty j l e)))
-        by-j (suc x) e = by-i (λ z. omega arith) (getD numbers (m * n + n + i) 0) refl
+        by-j (suc x) e = meet-stay (λ z. omega arith) fi k

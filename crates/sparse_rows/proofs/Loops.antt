@@ -1,26 +1,16 @@
--- One outer row as a loop over an array of rows: what code does by indices, and that it is `outerRow`.
-use mathlib.Core.Path.{_≡_, refl, sym, ap, ap₂, _∙_, subst}
+-- The loop over an array of rows, which code does by indices, is `outerRow`.
+use mathlib.Core.Path.{_≡_, refl, sym, ap, ap₂, _∙_}
 use mathlib.Core.Logic.{_≢_}
-use mathlib.Core.List.{List, [], _∷_, _++_, append-assoc, append-nil}
+use mathlib.Core.List.{List, [], _∷_, _++_, append-assoc}
 use Prim.Native.Nat.{ℕ, zero, suc, _+_, _-_, _≤_, _<_}
 use native.Mathlib.Omega.{arith}
-use native.Mathlib.Nat.{add-suc, zero-add}
-use lib.ListN.{length, getD, set, take, drop, length-append, length-set, length-drop, take-append-drop, List·getD-append}
-use lib.Seq.{getD-append-seam, set-append-seam, set-append-left, append-snoc, drop-cons, split-at, length-take-le, getD-at, getD-take}
+use lib.ListN.{length, set, take, drop, length-append, length-drop, take-append-drop, List·getD-append}
+use lib.Seq.{getD-append-seam, set-append-seam, set-append-left, append-snoc, split-at, length-take-le, getD-take}
 use Rattle.gf2.specs.Equation.{Equation, eqn}
 use Rattle.gf2.specs.Result.{Result, unsolvable, ok}
 use Rattle.rows.specs.Picture.{rowAt}
 use Rattle.sparse_rules.specs.Eliminate.{Meeting, clash, identity, both, meeting, Pass, behind, meetRow, outerRow}
-
--- row i meets rows j and on, k of them
-unfoldable pub meetLoop : ℕ → ℕ → ℕ → List Equation → Result (List Equation)
-meetLoop zero i j rows = ok rows
-meetLoop (suc k) i j rows =
-    elim (meeting (rowAt rows i) (rowAt rows j)) [
-      | clash ↦ unsolvable
-      | identity i′ ↦ ok (set rows i i′)
-      | both i′ j′ ↦ meetLoop k i (suc j) (set (set rows i i′) j j′)
-    ]
+use Rattle.sparse_rows.specs.Loop.{meetLoop}
 
 -- ---- a meeting inside the loop
 

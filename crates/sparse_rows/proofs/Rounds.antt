@@ -1,24 +1,25 @@
 -- The turns of the two loops over rows: row i meets the later rows, and every row but the last is an outer row.
 use mathlib.Core.Path.{_≡_, refl, sym, ap, ap₂, _∙_, subst}
 use mathlib.Core.Logic.{_≢_}
-use mathlib.Core.List.{List, [], _∷_, _++_, append-assoc}
+use mathlib.Core.List.{List, [], _++_}
 use Prim.Native.Nat.{ℕ, zero, suc, pred, _+_, _-_, _*_, _≤_, _<_}
 use native.Mathlib.Omega.{arith}
 use native.Mathlib.Numerals.{add-one}
 use lib.ListN.{length, getD, set, take, drop, length-append, length-drop, take-append-drop}
-use lib.Seq.{length-take-le, take-at, drop-at}
+use lib.Seq.{getD-set-same, getD-set-other, length-take-le, take-at, drop-at}
 use Rattle.gf2.specs.Equation.{Equation, eqn}
 use Rattle.gf2.specs.Result.{Result, unsolvable, ok}
 use Rattle.rows.specs.Picture.{Drawn, Kept, Held, rowsOf, rowAt}
-use Rattle.rows.proofs.Holding.{row-constant, rest-kept, held, carried}
-use Rattle.sparse_rules.specs.Eliminate.{Meeting, clash, identity, both, meeting, outerRow, outerRows, echelonForm}
-use Rattle.sparse_rows.specs.Reduce.{MetBy, clashed, vanished, paired, ReducedBy, refused, reduced, MeetsRows, Reduces}
+use Rattle.rows.proofs.Holding.{row-constant, row-length, rest-kept, rows-are, held, carried}
+use Rattle.sparse_rules.specs.Eliminate.{both, meeting, outerRow, outerRows, echelonForm}
+use Rattle.sparse_rows.specs.Reduce.{MetBy, clashed, vanished, paired, ReducedBy, refused, reduced, MeetsRows, Reduces, Alike, Passes}
 use Rattle.sparse_rows.specs.declared.echelon.Met.{Met}
 use Rattle.sparse_rows.specs.declared.echelon.Met.the-variants.{Clash, Identity, Both}
 use Rattle.sparse_rows.specs.declared.echelon.Reduction.{Reduction}
 use Rattle.sparse_rows.specs.declared.echelon.Reduction.the-variants.{Unsolvable, Reduced}
-use Rattle.sparse_rows.proofs.Loops.{meetLoop, loop-clash, loop-identity, loop-both, loop-over, followed, outer-blank, outer-wrong, outer-loop}
-use Rattle.sparse_rows.proofs.Forward.{empty, full, meet-pass}
+use Rattle.sparse_rows.specs.Loop.{meetLoop, StandsAt}
+use Rattle.sparse_rows.proofs.Loops.{loop-clash, loop-identity, loop-both, loop-over, followed, outer-blank, outer-wrong, outer-loop}
+use Rattle.sparse_rows.proofs.Forward.{empty, full}
 
 module _ {n m d : ℕ} {rows₀ : List Equation} {rest rest′ numbers words : List ℕ} where
   -- what a loop that went through to the end has come to
@@ -33,14 +34,66 @@ module _ {n m d : ℕ} {rows₀ : List Equation} {rest rest′ numbers words : L
 
 -- ---- row i meets the later rows
 
+-- a meeting that leaves both rows is a turn of the loop, whatever the loop gives
+module _ {n m d i : ℕ} {o : Result (List Equation)} {rest rest′ numbers words : List ℕ} {j : ℕ} (s : StandsAt n m d i o rest rest′ numbers words j) (h : j < d) where
+  pub one-more : meetLoop (suc (d - (j + 1))) i j (s .rows) ≡ o
+  one-more = let e : suc (d - (j + 1)) ≡ d - j = omega arith in ap (λ (k : ℕ). meetLoop k i j (s .rows)) e ∙ s .future
+
+  module _ {numbers′ words′ : List ℕ} {r : Met} (k : MeetsRows meeting n m i j numbers words numbers′ words′ r) where
+    pub met : MetBy n m i j (s .rows) rest rest′ (meeting (rowAt (s .rows) i) (rowAt (s .rows) j)) numbers′ words′ r
+    met = carried (s .drawn) (λ rows x y. MetBy n m i j rows x y (meeting (rowAt rows i) (rowAt rows j)) numbers′ words′ r) k
+
+    pub stands-turn : r ≡ Both → StandsAt n m d i o rest rest′ numbers′ words′ (j + 1)
+    stands-turn = go met
+      where
+        now-i : (i′ j′ : Equation) → rowAt (set (set (s .rows) i i′) j j′) i ≡ i′
+        now-i i′ j′ =
+            let ne : i ≢ j = omega (arith, s .i-below) in
+            getD-set-other (set (s .rows) i i′) j i j′ (eqn [] 0) ne ∙ getD-set-same (s .rows) i i′ (eqn [] 0) (omega (arith, s .i-below, s .d-in, s .drawn .count))
+
+        go : {r : Met} → MetBy n m i j (s .rows) rest rest′ (meeting (rowAt (s .rows) i) (rowAt (s .rows) j)) numbers′ words′ r → r ≡ Both → StandsAt n m d i o rest rest′ numbers′ words′ (j + 1)
+        go (clashed e q) p = absurd (let z : _≡_ {A = ℕ} 0 1 = cc in omega arith)
+        go (vanished i′ e q) p = absurd (let z : _≡_ {A = ℕ} 0 1 = cc in omega arith)
+        go (paired i′ j′ e f q) p =
+            record {
+              rows = set (set (s .rows) i i′) j j′;
+              drawn = q;
+              i-below = omega (arith, s .i-below);
+              j-in = omega arith;
+              d-in = s .d-in;
+              filled = λ z. f (ap (λ (e : Equation). length (e .vars)) (sym (now-i i′ j′)) ∙ z);
+              future = ap (λ (x : ℕ). meetLoop (d - (j + 1)) i x (set (set (s .rows) i i′) j j′)) (add-one j) ∙ sym (loop-both (d - (j + 1)) i j (s .rows) i′ j′ e) ∙ one-more;
+            }
+
+module _ {n m d i : ℕ} {o : Result (List Equation)} {rest rest′ numbers words : List ℕ} {j : ℕ} (s : StandsAt n m d i o rest rest′ numbers words j) where
+  -- row i has variables, as the code sees it
+  pub stands-filled : getD numbers (m * n + n + i) 0 ≢ 0
+  stands-filled z = s .filled (sym (row-length (s .drawn) i (omega (arith, s .i-below, s .j-in, s .d-in))) ∙ z)
+
+  -- no row is passed yet
+  pub passes-none : (j < d → Alike n m i j numbers) → Passes n m d i j numbers words numbers words j
+  passes-none a =
+      record {
+        from = omega arith;
+        alike = a;
+        stands = record { rows = rowsOf n m numbers words; drawn = held (s .drawn); i-below = s .i-below; j-in = s .j-in; d-in = s .d-in; filled = λ z. s .filled (ap (λ (r : List Equation). length (rowAt r i .vars)) (sym (rows-are (s .drawn))) ∙ z); future = refl };
+      }
+
+  -- some rows are passed
+  pub stands-passed : {numbers′ words′ : List ℕ} {r : ℕ} → Passes n m d i j numbers words numbers′ words′ r → StandsAt n m d i o rest rest′ numbers′ words′ r
+  stands-passed {numbers′} {words′} {r} p =
+      let q : StandsAt n m d i (meetLoop (d - j) i j (s .rows)) rest rest′ numbers′ words′ r =
+      carried (s .drawn) (λ rows x y. StandsAt n m d i (meetLoop (d - j) i j rows) x y numbers′ words′ r) (p .stands) in
+      record { rows = q .rows; drawn = q .drawn; i-below = q .i-below; j-in = q .j-in; d-in = q .d-in; filled = q .filled; future = q .future ∙ s .future }
+
+-- a turn of the loop after some that have passed rows
+pub passes-turn : {n m d i j j′ r : ℕ} {numbers words numbers₁ words₁ numbers₂ words₂ numbers₃ words₃ : List ℕ} {x : Met} → Passes n m d i j numbers words numbers₁ words₁ j′ → j′ < d
+    → MeetsRows meeting n m i j′ numbers₁ words₁ numbers₂ words₂ x → x ≡ Both → Passes n m d i (j′ + 1) numbers₂ words₂ numbers₃ words₃ r → Passes n m d i j numbers words numbers₃ words₃ r
+passes-turn p h k e q = record { from = omega (arith, p .from, q .from); alike = q .alike; stands = stands-passed (stands-turn (p .stands) h k e) q }
+
 -- what is left of the loop over j gives what the whole gives
 pub record Rounding (n m d i : ℕ) (rows₀ : List Equation) (rest rest′ numbers words : List ℕ) (j : ℕ) : Type 0 where
-  pub rows : List Equation
-  pub drawn : Drawn n m rows rest rest′ numbers words
-  pub i-below : i < j
-  pub j-in : j ≤ d
-  pub d-in : d ≤ m
-  pub future : meetLoop (d - j) i j rows ≡ followed (drop d rows₀) (outerRow i (take d rows₀))
+  pub stands : StandsAt n m d i (followed (drop d rows₀) (outerRow i (take d rows₀))) rest rest′ numbers words j
 
 module _ {n m d i : ℕ} {rows : List Equation} {rest rest′ numbers words : List ℕ} (k : Drawn n m rows rest rest′ numbers words) (h : i < d) (g : d ≤ m) where
   i-in : i < m
@@ -56,67 +109,35 @@ module _ {n m d i : ℕ} {rows : List Equation} {rest rest′ numbers words : Li
 
   pub round-begin : getD numbers (m * n + n + i) 0 ≢ 0 → Rounding n m d i rows rest rest′ numbers words (i + 1)
   round-begin f =
-      record { rows = rows; drawn = k; i-below = omega arith; j-in = omega arith; d-in = g; future = outer-loop d i rows h (omega (arith, k .count)) (full k i i-in f) }
+      record { stands = record { rows = rows; drawn = k; i-below = omega arith; j-in = omega arith; d-in = g; filled = full k i i-in f; future = outer-loop d i rows h (omega (arith, k .count)) (full k i i-in f) } }
 
 module _ {n m d i : ℕ} {rows₀ : List Equation} {rest rest′ numbers words : List ℕ} {j : ℕ} (s : Rounding n m d i rows₀ rest rest′ numbers words j) where
-  pub round-held : Held n m numbers words
-  round-held = held (s .drawn)
+  pub round-passed : {numbers′ words′ : List ℕ} {r : ℕ} → Passes n m d i j numbers words numbers′ words′ r → Rounding n m d i rows₀ rest rest′ numbers′ words′ r
+  round-passed p = record { stands = stands-passed (s .stands) p }
 
   pub round-end : d ≤ j → ReducedBy n m d rows₀ rest rest′ (outerRow i (take d rows₀)) numbers words Reduced
   round-end h =
       let z : d - j ≡ 0 = omega arith in
-      settled (outerRow i (take d rows₀)) (s .rows) (sym (s .future) ∙ loop-over (d - j) i j (s .rows) z) (s .drawn)
+      settled (outerRow i (take d rows₀)) (s .stands .rows) (sym (s .stands .future) ∙ loop-over (d - j) i j (s .stands .rows) z) (s .stands .drawn)
 
   module _ (h : j < d) {numbers′ words′ : List ℕ} {r : Met} (k : MeetsRows meeting n m i j numbers words numbers′ words′ r) where
-    met : MetBy n m i j (s .rows) rest rest′ (meeting (rowAt (s .rows) i) (rowAt (s .rows) j)) numbers′ words′ r
-    met = carried (s .drawn) (λ rows x y. MetBy n m i j rows x y (meeting (rowAt rows i) (rowAt rows j)) numbers′ words′ r) k
-
-    one-more : meetLoop (suc (d - (j + 1))) i j (s .rows) ≡ followed (drop d rows₀) (outerRow i (take d rows₀))
-    one-more = let e : suc (d - (j + 1)) ≡ d - j = omega arith in ap (λ (k : ℕ). meetLoop k i j (s .rows)) e ∙ s .future
-
     pub round-clash : r ≡ Clash → ReducedBy n m d rows₀ rest rest′ (outerRow i (take d rows₀)) numbers′ words′ Unsolvable
-    round-clash = go met
+    round-clash = go (met (s .stands) h k)
       where
-        go : {r : Met} → MetBy n m i j (s .rows) rest rest′ (meeting (rowAt (s .rows) i) (rowAt (s .rows) j)) numbers′ words′ r → r ≡ Clash
+        go : {r : Met} → MetBy n m i j (s .stands .rows) rest rest′ (meeting (rowAt (s .stands .rows) i) (rowAt (s .stands .rows) j)) numbers′ words′ r → r ≡ Clash
             → ReducedBy n m d rows₀ rest rest′ (outerRow i (take d rows₀)) numbers′ words′ Unsolvable
-        go (clashed e q) p = failed (outerRow i (take d rows₀)) (sym one-more ∙ loop-clash (d - (j + 1)) i j (s .rows) e) q
+        go (clashed e q) p = failed (outerRow i (take d rows₀)) (sym (one-more (s .stands) h) ∙ loop-clash (d - (j + 1)) i j (s .stands .rows) e) q
         go (vanished i′ e q) p = absurd (let z : _≡_ {A = ℕ} 0 1 = cc in omega arith)
-        go (paired i′ j′ e q) p = absurd (let z : _≡_ {A = ℕ} 0 1 = cc in omega arith)
+        go (paired i′ j′ e f q) p = absurd (let z : _≡_ {A = ℕ} 0 1 = cc in omega arith)
 
     pub round-identity : r ≡ Identity → ReducedBy n m d rows₀ rest rest′ (outerRow i (take d rows₀)) numbers′ words′ Reduced
-    round-identity = go met
+    round-identity = go (met (s .stands) h k)
       where
-        go : {r : Met} → MetBy n m i j (s .rows) rest rest′ (meeting (rowAt (s .rows) i) (rowAt (s .rows) j)) numbers′ words′ r → r ≡ Identity
+        go : {r : Met} → MetBy n m i j (s .stands .rows) rest rest′ (meeting (rowAt (s .stands .rows) i) (rowAt (s .stands .rows) j)) numbers′ words′ r → r ≡ Identity
             → ReducedBy n m d rows₀ rest rest′ (outerRow i (take d rows₀)) numbers′ words′ Reduced
         go (clashed e q) p = absurd (let z : _≡_ {A = ℕ} 0 1 = cc in omega arith)
-        go (vanished i′ e q) p = settled (outerRow i (take d rows₀)) (set (s .rows) i i′) (sym one-more ∙ loop-identity (d - (j + 1)) i j (s .rows) i′ e) q
-        go (paired i′ j′ e q) p = absurd (let z : _≡_ {A = ℕ} 0 1 = cc in omega arith)
-
-    pub round-turn : r ≡ Both → Rounding n m d i rows₀ rest rest′ numbers′ words′ (j + 1)
-    round-turn = go met
-      where
-        go : {r : Met} → MetBy n m i j (s .rows) rest rest′ (meeting (rowAt (s .rows) i) (rowAt (s .rows) j)) numbers′ words′ r → r ≡ Both → Rounding n m d i rows₀ rest rest′ numbers′ words′ (j + 1)
-        go (clashed e q) p = absurd (let z : _≡_ {A = ℕ} 0 1 = cc in omega arith)
-        go (vanished i′ e q) p = absurd (let z : _≡_ {A = ℕ} 0 1 = cc in omega arith)
-        go (paired i′ j′ e q) p =
-            record {
-              rows = set (set (s .rows) i i′) j j′;
-              drawn = q;
-              i-below = omega (arith, s .i-below);
-              j-in = omega arith;
-              d-in = s .d-in;
-              future = ap (λ (x : ℕ). meetLoop (d - (j + 1)) i x (set (set (s .rows) i i′) j j′)) (add-one j) ∙ sym (loop-both (d - (j + 1)) i j (s .rows) i′ j′ e) ∙ one-more;
-            }
-
-  -- row j begins above row i
-  pub round-pass : j < d → getD numbers (i * n) 0 < getD numbers (j * n) 0 → Rounding n m d i rows₀ rest rest′ numbers words (j + 1)
-  round-pass h k = round-turn h (meet-pass round-held i j (s .i-below) (omega (arith, s .d-in)) k) refl
-
--- the areas and the first number of row i by other names, as after a branch
-pub round-as : {n m d i x y j u u′ : ℕ} {rows₀ : List Equation} {rest rest′ numbers numbers′ words words′ : List ℕ} → numbers′ ≡ numbers → words′ ≡ words → u′ ≡ u
-    → Rounding n m d i rows₀ rest rest′ numbers words j × (length numbers ≡ x) × (length words ≡ y) × (u ≡ getD numbers (i * n) 0)
-    → Rounding n m d i rows₀ rest rest′ numbers′ words′ j × (length numbers′ ≡ x) × (length words′ ≡ y) × (u′ ≡ getD numbers′ (i * n) 0)
-round-as e f g k = rw (e, f, g) k
+        go (vanished i′ e q) p = settled (outerRow i (take d rows₀)) (set (s .stands .rows) i i′) (sym (one-more (s .stands) h) ∙ loop-identity (d - (j + 1)) i j (s .stands .rows) i′ e) q
+        go (paired i′ j′ e f q) p = absurd (let z : _≡_ {A = ℕ} 0 1 = cc in omega arith)
 
 -- ---- every row but the last
 

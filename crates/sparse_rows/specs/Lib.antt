@@ -1,1 +1,2 @@
+pub mod Loop
 pub mod Reduce

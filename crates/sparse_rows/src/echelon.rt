@@ -1,10 +1,12 @@
 // The rows to echelon form, one outer row at a time.
 ghost use mathlib.Core.Path.{_≡_};
-ghost use Prim.Native.Nat.{_+_, _≤_, _<_};
+ghost use mathlib.Core.Logic.{_≢_};
+ghost use Prim.Native.Nat.{_+_, _*_, _≤_, _<_};
+ghost use lib.ListN.{getD};
 ghost use Rattle.answers.specs.Sizes.{maxVariables};
 ghost use Rattle.rows.specs.Picture.{Held};
 ghost use Rattle.sparse_rules.specs.Eliminate.{meeting, outerRow, echelonForm};
-ghost use Rattle.sparse_rows.specs.Reduce.{MeetsRows, Reduces, summedWith};
+ghost use Rattle.sparse_rows.specs.Reduce.{Alike, MeetsRows, Passes, Reduces, summedWith};
 
 // What came of a meeting of row i and a later row j.
 pub enum Met {
@@ -30,7 +32,7 @@ fn summed_rows(
     i: usize,
     j: usize,
 ) -> Met
-    requires { ⌜ Held n m (now numbers) (now words) × (i < j) × (j < m) ⌝ }
+    requires { ⌜ Held n m (now numbers) (now words) × (i < j) × (j < m) × (getD (now numbers) (m * n + n + j) 0 ≢ 0) ⌝ }
     ensures { λ r. ⌜ MeetsRows summedWith n m i j (now (numbers .entry)) (now (words .entry)) (now (numbers .exit)) (now (words .exit)) r ⌝ }
 {
     if numbers[m * n + n + i] == 0 {
@@ -48,9 +50,9 @@ fn summed_rows(
     Met::Both
 }
 
-// Row `i` meets the later row `j`.
+// Row `i` meets the later row `j`, which has no variables or begins as row `i` does.
 fn meet_rows(numbers: &mut [u32], words: &mut [u64], n: usize, m: usize, i: usize, j: usize) -> Met
-    requires { ⌜ Held n m (now numbers) (now words) × (i < j) × (j < m) × (n ≤ maxVariables) ⌝ }
+    requires { ⌜ Held n m (now numbers) (now words) × (i < j) × (j < m) × (n ≤ maxVariables) × Alike n m i j (now numbers) ⌝ }
     ensures { λ r. ⌜ MeetsRows meeting n m i j (now (numbers .entry)) (now (words .entry)) (now (numbers .exit)) (now (words .exit)) r ⌝ }
 {
     if numbers[m * n + n + j] == 0 {
@@ -59,20 +61,47 @@ fn meet_rows(numbers: &mut [u32], words: &mut [u64], n: usize, m: usize, i: usiz
         }
         return Met::Both;
     }
-    if numbers[m * n + n + i] == 0 {
-        return Met::Both;
-    }
-    let u = numbers[i * n];
-    let v = numbers[j * n];
-    if u < v {
-        return Met::Both;
-    }
-    if v < u {
-        rows::swap_rows(numbers, words, n, m, i, j);
-        return Met::Both;
-    }
     rows::add_rows(numbers, words, n, m, i, j);
     summed_rows(numbers, words, n, m, i, j)
+}
+
+// Row `i` meets the rows from row `j` on as far as their first variables decide: one that begins above row `i` stays, one that begins below changes
+// places with it. Returns the first row that begins as row `i` does or has no variables, or `d`.
+fn pass_rows(
+    numbers: &mut [u32],
+    words: &mut [u64],
+    n: usize,
+    m: usize,
+    d: usize,
+    i: usize,
+    j: usize,
+) -> usize
+    requires { ⌜ Held n m (now numbers) (now words) × (i < j) × (j ≤ d) × (d ≤ m) × (getD (now numbers) (m * n + n + i) 0 ≢ 0) ⌝ }
+    ensures { λ r. ⌜ Passes n m d i j (now (numbers .entry)) (now (words .entry)) (now (numbers .exit)) (now (words .exit)) r ⌝ }
+{
+    let lens = m * n + n;
+    let mut u = numbers[i * n];
+    let mut k = j;
+    let mut q = j * n;
+    while k < d {
+        let v = numbers[q];
+        if u < v {
+            k += 1;
+            q += n;
+            continue;
+        }
+        if v == u {
+            return k;
+        }
+        if numbers[lens + k] == 0 {
+            return k;
+        }
+        rows::swap_rows(numbers, words, n, m, i, k);
+        u = v;
+        k += 1;
+        q += n;
+    }
+    k
 }
 
 // One outer row: row `i` meets each later row of the first `d`.
@@ -93,18 +122,13 @@ pub fn outer_row(
         }
         return Reduction::Reduced;
     }
-    let mut u = numbers[i * n];
-    let mut j = i + 1;
+    let mut j = pass_rows(numbers, words, n, m, d, i, i + 1);
     while j < d {
-        // Most rows begin above row i; an empty one begins with 0.
-        if numbers[j * n] <= u {
-            match meet_rows(numbers, words, n, m, i, j) {
-                Met::Clash => return Reduction::Unsolvable,
-                Met::Identity => return Reduction::Reduced,
-                Met::Both => u = numbers[i * n],
-            }
+        match meet_rows(numbers, words, n, m, i, j) {
+            Met::Clash => return Reduction::Unsolvable,
+            Met::Identity => return Reduction::Reduced,
+            Met::Both => j = pass_rows(numbers, words, n, m, d, i, j + 1),
         }
-        j += 1;
     }
     Reduction::Reduced
 }

@@ -29,5 +29,5 @@ summed-rows-spec =
     (λ c κs. search needs)  -- swap-rows-requires
     (λ c. search needs)  -- same-length
     (λ c. search needs)  -- same-length-2
-    (λ c. let s = c .before .before .before .before .before .before .before .before .before .before .before .before .before .before in sum-swap (s .pre .0) _ _ (s .pre .1) (s .pre .2) (c .before .before .before .before .before .before .before .before .before .before .if1 .left) (c .before .before .before .before .before .before .before .if3 .taken) _ _ (c .before .before .before .before .swap-rows .ensures))  -- returns-3
+    (λ c. let s = c .before .before .before .before .before .before .before .before .before .before .before .before .before .before in sum-swap (s .pre .0) _ _ (s .pre .1) (s .pre .2) (c .before .before .before .before .before .before .before .before .before .before .if1 .left) (s .pre .3) (c .before .before .before .before .before .before .before .if3 .taken) _ _ (c .before .before .before .before .swap-rows .ensures))  -- returns-3
     (λ c. let s = c .before .before .before .before .before .before .before in sum-stay (s .pre .0) _ _ (s .pre .1) (s .pre .2) (c .before .before .before .if1 .left) (c .if3 .left)))
