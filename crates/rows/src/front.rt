@@ -5,45 +5,30 @@ ghost use lib.ListN.{length};
 ghost use Rattle.areas.specs.Stretch.{exchanged};
 ghost use Rattle.rows.specs.Front.{Exchanged};
 
-// Exchanges the four numbers from index `p` on with those from index `q` on: all are read before one is written, so they move as vectors.
-fn exchange_four(numbers: &mut [u32], p: usize, q: usize)
-    requires { ⌜ (p + 4 ≤ q) × (q + 4 ≤ length (now numbers)) ⌝ }
-    ensures { λ _. ⌜ now (numbers .exit) ≡ exchanged p q 4 (now (numbers .entry)) ⌝ }
-{
-    let a = numbers[p];
-    let b = numbers[p + 1];
-    let c = numbers[p + 2];
-    let d = numbers[p + 3];
-    let e = numbers[q];
-    let f = numbers[q + 1];
-    let g = numbers[q + 2];
-    let h = numbers[q + 3];
-    numbers[q] = a;
-    numbers[q + 1] = b;
-    numbers[q + 2] = c;
-    numbers[q + 3] = d;
-    numbers[p] = e;
-    numbers[p + 1] = f;
-    numbers[p + 2] = g;
-    numbers[p + 3] = h;
-}
-
-// Exchanges eight numbers.
+// Exchanges the eight numbers from index `p` on with those from index `q` on: all are read before one is written, so they move as vectors.
 fn exchange_eight(numbers: &mut [u32], p: usize, q: usize)
     requires { ⌜ (p + 8 ≤ q) × (q + 8 ≤ length (now numbers)) ⌝ }
     ensures { λ _. ⌜ now (numbers .exit) ≡ exchanged p q 8 (now (numbers .entry)) ⌝ }
 {
-    exchange_four(numbers, p, q);
-    exchange_four(numbers, p + 4, q + 4);
+    let mut a: [u32; 8] = [0; 8];
+    let mut b: [u32; 8] = [0; 8];
+    areas::copy::copy_numbers(&numbers[p..p + 8], &mut a, 0);
+    areas::copy::copy_numbers(&numbers[q..q + 8], &mut b, 0);
+    areas::copy::copy_numbers(&a, numbers, q);
+    areas::copy::copy_numbers(&b, numbers, p);
 }
 
-// Exchanges sixteen numbers.
+// Exchanges sixteen numbers in the same way.
 fn exchange_sixteen(numbers: &mut [u32], p: usize, q: usize)
     requires { ⌜ (p + 16 ≤ q) × (q + 16 ≤ length (now numbers)) ⌝ }
     ensures { λ _. ⌜ now (numbers .exit) ≡ exchanged p q 16 (now (numbers .entry)) ⌝ }
 {
-    exchange_eight(numbers, p, q);
-    exchange_eight(numbers, p + 8, q + 8);
+    let mut a: [u32; 16] = [0; 16];
+    let mut b: [u32; 16] = [0; 16];
+    areas::copy::copy_numbers(&numbers[p..p + 16], &mut a, 0);
+    areas::copy::copy_numbers(&numbers[q..q + 16], &mut b, 0);
+    areas::copy::copy_numbers(&a, numbers, q);
+    areas::copy::copy_numbers(&b, numbers, p);
 }
 
 // Exchanges sixteen numbers where `room` allows, one otherwise, and returns how many.
