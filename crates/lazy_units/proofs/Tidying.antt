@@ -1,7 +1,7 @@
 -- The numbers that show a state have both their blocks of rows padded.
 use mathlib.Core.Path.{_≡_, sym, ap, _∙_}
-use mathlib.Core.List.{List, [], _∷_, _++_, append-nil, map}
-use Prim.Native.Nat.{ℕ, _+_, _*_, _≤_, _<_}
+use mathlib.Core.List.{List, [], _++_, append-nil, map}
+use Prim.Native.Nat.{ℕ, _+_, _*_, _≤_}
 use native.Mathlib.Nat.{add-zero}
 use native.Mathlib.Omega.{arith}
 use lib.ListN.{length, drop, replicate, length-replicate}
@@ -13,9 +13,9 @@ use Rattle.rows.specs.Picture.{picture, varsOf, lengthOf}
 use Rattle.rows.proofs.Padding.{rows-padded}
 use Rattle.lazy.specs.Lazy.{State}
 use Rattle.lazy_setup.specs.declared.Layout.{Layout}
-use Rattle.lazy_setup.specs.Area.{segments, densePart}
+use Rattle.lazy_setup.specs.Area.{segments}
 use Rattle.lazy_pops.specs.Laid.{Laid}
-use Rattle.lazy_pops.proofs.Places.{Places, places, segmented}
+use Rattle.lazy_pops.proofs.Places.{places, segmented}
 use Rattle.lazy_units.specs.Tidy.{Tidy}
 use Rattle.lazy_units.proofs.DensePart.{filled, length-filled, part-is-picture, filled-narrow}
 use Rattle.lazy_units.proofs.Ends.{numbers-end}
