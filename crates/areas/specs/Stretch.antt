@@ -11,6 +11,10 @@ stretch b n area = take n (drop b area)
 unfoldable pub put : ℕ → List ℕ → List ℕ → List ℕ
 put b s area = take b area ++ (s ++ drop (b + length s) area)
 
+-- k zeros
+abbrev pub zeros : ℕ → List ℕ
+zeros k = replicate k 0
+
 -- the area with zeros from b up to e
 abbrev pub zeroed : ℕ → ℕ → List ℕ → List ℕ
 zeroed b e area = put b (replicate (e - b) 0) area

@@ -14,7 +14,8 @@ use Rattle.peel_rules.specs.Peel.{edgeXor, Met}
 use Rattle.peel_rules.proofs.PeelCalls.{call-solved}
 use Rattle.peel_rules.proofs.PeelTheorems.{peel-solves}
 use Rattle.link_form.specs.File.{peelKind, count, rowBytes, readRows}
-use Rattle.link_form.specs.Lent.{lentNumbers, lentBytes, zeros}
+use Rattle.areas.specs.Stretch.{zeros}
+use Rattle.link_form.specs.Lent.{lentNumbers, lentBytes}
 use Rattle.link_form.proofs.Scanning.{length-row}
 use Rattle.link_form.proofs.RoundTrip.{taken}
 use Rattle.link_edges.specs.Edges.{edgeOf, edgesOf, lentCall, edgesCall}

@@ -7,7 +7,8 @@ use Rattle.peeling.specs.declared.numbers.Edge.{Edge}
 use Rattle.peel_rules.specs.Edges.{edge}
 use Rattle.peel_rules.specs.Machine.{noEdge}
 use Rattle.peel_rules.specs.Calls.{PeelCall, peelLowCall}
-use Rattle.link_form.specs.Lent.{mostRows, lentNumbers, lentBytes, zeros}
+use Rattle.areas.specs.Stretch.{zeros}
+use Rattle.link_form.specs.Lent.{mostRows, lentNumbers, lentBytes}
 
 -- a row's three variables, at sides 0, 1 and 2, and its constant
 unfoldable pub edgeOf : Equation → Edge

@@ -14,12 +14,12 @@ use Rattle.answers.specs.Calls.{pick}
 use Rattle.answers.specs.Numbers.{numberOf, placeOf}
 use Rattle.answers.specs.declared.Answer.{Answer}
 use Rattle.answers.specs.declared.Answer.the-variants.{Solved, TooLarge, BadShape, BadEntry, WrongSolution, ShortArea, Unsolvable, CrowdedVertex, Stuck, BadFile, OutsideDomain}
-use Rattle.areas.specs.Stretch.{put}
+use Rattle.areas.specs.Stretch.{put, zeros}
 use Rattle.areas.proofs.Stretch.{take-replicate}
 use Rattle.link_form.specs.declared.scan.Form.the-variants.{Malformed, Described}
 use Rattle.link_form.specs.File.{Link, peelKind, width, headerBytes, readRows, readFile, formOf}
 use Rattle.link_lines.specs.Lines.{headerLine, valueLines}
-use Rattle.link_form.specs.Lent.{mostVariables, mostRows, mostListed, zeros, fileRows, Served, sizesServed}
+use Rattle.link_form.specs.Lent.{mostVariables, mostRows, mostListed, fileRows, Served, sizesServed}
 use Rattle.link_form.proofs.Loadable.{Loadable, loadable}
 use Rattle.link_lines.proofs.Lining.{Told, told-first, told-more, header-short, answer-short, values-short}
 use Rattle.link_rows.specs.RowsCall.{rowsCall}

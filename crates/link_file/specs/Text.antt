@@ -5,13 +5,13 @@ use Prim.Native.Nat.{ℕ, _+_, _*_}
 use lib.ListN.{length}
 use lib.Dec.{eqb, leb}
 use Rattle.gf2.specs.Equation.{Equation}
-use Rattle.areas.specs.Stretch.{put}
+use Rattle.areas.specs.Stretch.{put, zeros}
 use Rattle.answers.specs.Calls.{Call, pick}
 use Rattle.answers.specs.declared.Answer.the-variants.{TooLarge, BadFile}
 use Rattle.system.specs.Fits.{listedIn}
 use Rattle.peel_rules.specs.Calls.{PeelCall}
 use Rattle.link_form.specs.File.{Link, peelKind, readFile}
-use Rattle.link_form.specs.Lent.{mostVariables, sizesServed, zeros, fileRows}
+use Rattle.link_form.specs.Lent.{mostVariables, sizesServed, fileRows}
 use Rattle.link_lines.specs.Lines.{headerLine, mostEnded, mostHeader, mostAnswer}
 use Rattle.link_lines.specs.Outcomes.{Outcome, outcome, refusalText, outcomeText}
 use Rattle.link_rows.specs.RowsCall.{rowsCall}

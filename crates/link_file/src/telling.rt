@@ -2,12 +2,12 @@
 ghost use mathlib.Core.Path.{_≡_};
 ghost use Prim.Native.Nat.{_+_, _≤_};
 ghost use lib.ListN.{length};
-ghost use Rattle.areas.specs.Stretch.{put};
+ghost use Rattle.areas.specs.Stretch.{put, zeros};
 ghost use Rattle.system.specs.Fits.{listedIn};
 ghost use Rattle.link_form.specs.declared.scan.Form.the-variants.{Described};
 ghost use Rattle.link_form.specs.File.{readFile, formOf};
 ghost use Rattle.link_lines.specs.Outcomes.{outcomeText};
-ghost use Rattle.link_form.specs.Lent.{Served, fileRows, zeros};
+ghost use Rattle.link_form.specs.Lent.{Served, fileRows};
 ghost use Rattle.link_file.specs.Text.{served, fileLink, answered, mostOutcome};
 use crate::solving::solve;
 use answers::Answer;

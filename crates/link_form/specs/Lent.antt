@@ -4,7 +4,7 @@ use mathlib.Core.Bool.{Bool, _&&_}
 use mathlib.Core.List.{List}
 use mathlib.Core.Option.{some}
 use Prim.Native.Nat.{ℕ, _≤_}
-use lib.ListN.{length, drop, replicate}
+use lib.ListN.{length, drop}
 use lib.Dec.{leb}
 use Rattle.gf2.specs.Equation.{Equation}
 use Rattle.system.specs.Fits.{listedIn}
@@ -35,9 +35,6 @@ lentWords = 512
 
 abbrev pub lentBytes : ℕ
 lentBytes = 1024
-
-abbrev pub zeros : ℕ → List ℕ
-zeros k = replicate k 0
 
 -- ---- a file that is served
 

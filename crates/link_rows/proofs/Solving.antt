@@ -15,7 +15,8 @@ use Rattle.lazy_calls.specs.LazyCall.{lazyCall}
 use Rattle.lazy_calls.proofs.CallTheorems.{lazyCall-solves}
 use Rattle.link_form.specs.File.{lazyKind}
 use Rattle.link_load.specs.Loading.{startsOf, varsOf, constantsOf}
-use Rattle.link_form.specs.Lent.{lentNumbers, lentWords, zeros}
+use Rattle.areas.specs.Stretch.{zeros}
+use Rattle.link_form.specs.Lent.{lentNumbers, lentWords}
 use Rattle.link_load.proofs.LaidRows.{laid-rows}
 use Rattle.link_rows.specs.RowsCall.{solverOf, rowsCall}
 

@@ -9,7 +9,8 @@ use Rattle.sparse_rules.specs.SparseCall.{sparseCall}
 use Rattle.lazy_calls.specs.LazyCall.{lazyCall}
 use Rattle.link_form.specs.File.{lazyKind}
 use Rattle.link_load.specs.Loading.{startsOf, varsOf, constantsOf}
-use Rattle.link_form.specs.Lent.{lentNumbers, lentWords, zeros}
+use Rattle.areas.specs.Stretch.{zeros}
+use Rattle.link_form.specs.Lent.{lentNumbers, lentWords}
 
 -- the solver of a kind
 unfoldable pub solverOf : ℕ → ℕ → ℕ → List ℕ → List ℕ → List ℕ → List ℕ → List ℕ → List ℕ → Call

@@ -4,16 +4,13 @@ use mathlib.Core.List.{List, [], _∷_, _++_}
 use Prim.Native.Nat.{ℕ, zero, suc, _+_, _*_}
 use lib.ListN.{replicate}
 use lib.Ieee.{binary64, mul, div, ofInt, round, units, odd, span, climb, size}
-use Rattle.areas.specs.Stretch.{cleared}
+use Rattle.areas.specs.Stretch.{zeros, cleared}
 use Rattle.answers.specs.declared.Answer.the-variants.{Solved, CrowdedVertex, Stuck}
 use Rattle.peeling.specs.declared.numbers.Edge.{Edge}
 use Rattle.peel_rules.specs.Edges.{edge, badEdge, touches, degree, edgeAt, without, sideOf, pivot, first, second}
 use Rattle.peel_rules.specs.Peel.{push, popped, pop, step, run, ones, start, peel, fillOne, fill, verdict, answer, crowdedFrom, crowdedVertex}
 use Rattle.peel_rules.specs.Report.{count, noReport, reportOf, percentage}
 use Rattle.peel_rules.specs.Calls.{peelHighCall, peelLowCall}
-
-abbrev zeros : ℕ → List ℕ
-zeros n = replicate n 0
 
 -- two edges, solved; the numbers and bytes past the room stay
 pub P6-low : peelLowCall 4 (edge 0 1 2 5 ∷ edge 1 2 3 6 ∷ []) (9 ∷ 9 ∷ 9 ∷ 9 ∷ []) (replicate 9 7) (replicate 6 7)

@@ -2,8 +2,9 @@
 use mathlib.Core.Path.{_≡_}
 use mathlib.Core.List.{List, [], _∷_, _++_}
 use Prim.Native.Nat.{ℕ, _+_}
-use lib.ListN.{length, replicate, take}
+use lib.ListN.{length, take}
 use lib.Ieee.{Float, binary64, div}
+use Rattle.areas.specs.Stretch.{zeros}
 use Rattle.answers.specs.Sizes.{sparseNumbers, sparseWords, lazyNumbers, lazyWords, denseNumbers, denseWords, peelHighNumbers, peelHighBytes, peelLowNumbers, peelLowBytes}
 use Rattle.answers.specs.Calls.{Call}
 use Rattle.answers.specs.declared.Answer.{Answer}
@@ -39,9 +40,6 @@ pub data Outcome : Type 0 where
   stuckAt : ℕ → Float → Outcome
   -- the variables and the constant of a sum
   summed : List ℕ → ℕ → Outcome
-
-abbrev pub zeros : ℕ → List ℕ
-zeros k = replicate k 0
 
 -- after 0 the values, after any other number the number and its place
 abbrev pub solverOutcome : Answer → List ℕ → Outcome
@@ -136,8 +134,8 @@ peelLines by =
 abbrev pub denseLines : List Line
 denseLines =
     must (byDense 2 1 (3 ∷ []) (7 ∷ [])) (values (7 ∷ 0 ∷ []))
-    ∷ must (byDense 64 1 (9223372036854775808 ∷ []) (9 ∷ [])) (values (replicate 63 0 ++ (9 ∷ [])))
-    ∷ must (byDense 65 2 (0 ∷ 1 ∷ []) (9 ∷ [])) (values (replicate 64 0 ++ (9 ∷ [])))
+    ∷ must (byDense 64 1 (9223372036854775808 ∷ []) (9 ∷ [])) (values (zeros 63 ++ (9 ∷ [])))
+    ∷ must (byDense 65 2 (0 ∷ 1 ∷ []) (9 ∷ [])) (values (zeros 64 ++ (9 ∷ [])))
     ∷ must (byDense 64 2 (0 ∷ 1 ∷ []) (9 ∷ [])) (refusal 3 0)
     ∷ []
 
