@@ -10,6 +10,7 @@ use borrow.Author.Tests.{ne-eqb, eqb-false}
 use Rattle.peeling.specs.declared.numbers.Edge.{Edge}
 use Rattle.peel_rules.specs.Edges.{edge, touches, bump, degree}
 use Rattle.peel_rules.specs.Core.{pick, Within}
+use Rattle.peel_rules.proofs.PeelCore.{zero-parts}
 use Rattle.bench_cores.specs.Counted.{living}
 
 pub length-living : (bytes : List ℕ) → length (living bytes) ≡ length bytes
@@ -29,30 +30,6 @@ within-all [] zero h = tt
 within-all [] (suc n) h = absurd (omega arith)
 within-all (b ∷ bs) zero h = absurd (omega arith)
 within-all (b ∷ bs) (suc n) h = (λ _. refl, within-all bs n (omega arith))
-
--- ---- degrees
-
-up : (t : Bool) (i j : ℕ) → i ≤ j → bump t i ≤ bump t j
-up true i j h = omega arith
-up false i j h = h
-
-bump-up : (t : Bool) (k : ℕ) → k ≤ bump t k
-bump-up true k = omega arith
-bump-up false k = omega arith
-
--- the degrees in a set are at most those in a larger set
-pub within-degree : (v : ℕ) (ms bs : List Bool) (es : List Edge) → Within ms bs → degree v (pick ms es) ≤ degree v (pick bs es)
-unfolding pick degree
-within-degree v [] bs es w = omega arith
-within-degree v (m ∷ ms) [] es w = absurd w
-within-degree v (m ∷ ms) (b ∷ bs) [] w = omega arith
-within-degree v (m ∷ ms) (b ∷ bs) (e ∷ es) w = go m b (w .0) (within-degree v ms bs es (w .1))
-  where
-    go : (m b : Bool) → (m ≡ true → b ≡ true) → degree v (pick ms es) ≤ degree v (pick bs es) → degree v (cond m (e ∷ pick ms es) (pick ms es)) ≤ degree v (cond b (e ∷ pick bs es) (pick bs es))
-    go true true q ih = up (touches v e) (degree v (pick ms es)) (degree v (pick bs es)) ih
-    go true false q ih = absurd (true≢false (sym (q refl)))
-    go false true q ih = omega (arith, bump-up (touches v e) (degree v (pick bs es)))
-    go false false q ih = ih
 
 -- a vertex that is touched is touched by an edge that is alive
 pub record TouchedBy (w : ℕ) (bytes : List ℕ) (es : List Edge) : Type 0 where
@@ -93,15 +70,6 @@ fewer-alive (suc k) (b ∷ bs) (e ∷ es) h g ne = go (eqb b 0) (fewer-alive k b
         → length (cond (not z) (e ∷ pick (living bs) es) (pick (living bs) es)) ≡ 1 + length (cond (not z) (e ∷ pick (living (set bs k 0)) es) (pick (living (set bs k 0)) es))
     go true ih = ih
     go false ih = omega (arith, ih)
-
-zero-parts : (v : ℕ) (e : Edge) (l : List Edge) (m : Bool) → degree v (cond m (e ∷ l) l) ≡ 0 → (degree v l ≡ 0) × (m ≡ true → touches v e ≡ false)
-unfolding degree
-zero-parts v e l false h = (h, λ q. absurd (true≢false (sym q)))
-zero-parts v e l true h = go (touches v e) refl h
-  where
-    go : (t : Bool) → touches v e ≡ t → bump t (degree v l) ≡ 0 → (degree v l ≡ 0) × (true ≡ true → touches v e ≡ false)
-    go true q g = absurd (omega arith)
-    go false q g = (g, λ _. q)
 
 -- a set that does not touch one of the edge's vertices does not have the edge
 pub within-without : (v k : ℕ) (ms : List Bool) (bytes : List ℕ) (es : List Edge) → k < length es → touches v (getD es k (edge 0 0 0 0)) ≡ true → degree v (pick ms es) ≡ 0

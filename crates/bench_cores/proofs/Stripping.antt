@@ -15,9 +15,9 @@ use Rattle.peeling.specs.declared.numbers.Edge.{Edge}
 use Rattle.peel_rules.specs.Edges.{edge, touches, degree, side0, pivot, first, second}
 use Rattle.peel_rules.specs.Core.{Tight, pick, Within, Core}
 use Rattle.peel_rules.proofs.PeelBasic.{touches-a, touches-b, touches-c}
-use Rattle.peel_rules.proofs.PeelCore.{vertex, core-unique}
+use Rattle.peel_rules.proofs.PeelCore.{vertex, core-unique, within-degree, tight-zero}
 use Rattle.bench_cores.specs.Counted.{living, aliveOf, hangsBy, edgeNo, OneStrip, dead, stays, goes, Strips, OutsideCore}
-use Rattle.bench_cores.proofs.Living.{length-living, within-all, within-degree, touched-by, fewer-alive, within-without}
+use Rattle.bench_cores.proofs.Living.{length-living, within-all, touched-by, fewer-alive, within-without}
 use Rattle.bench_cores.proofs.Counting.{all-alive}
 
 -- ---- edges that hang
@@ -70,10 +70,6 @@ pub record Stripping (m : ℕ) (table : List Edge) (before : List ℕ) (i : ℕ)
 pub stripping-begin : (m : ℕ) (table : List Edge) (alive : List ℕ) → Stripping m table alive 0 alive 0
 stripping-begin m table alive =
     record { done = omega arith; few = omega arith; long = refl; fewer = omega arith; kept = λ bs t w. w; still = λ _. refl; firm = λ _ k h. absurd (omega arith) }
-
-tight-zero : (d : ℕ) → d ≤ 1 → (0 < d → 2 ≤ d) → d ≡ 0
-tight-zero zero h t = refl
-tight-zero (suc d) h t = absurd (omega (arith, t (omega arith)))
 
 module _ (m : ℕ) (table : List Edge) (i : ℕ) (alive : List ℕ) (h : i < m) (la : m ≤ length alive) (lt : m ≤ length table) where
   gone-one : (getD alive i 0 ≡ 0 → ⊥) → length (aliveOf m alive table) ≡ 1 + length (aliveOf m (set alive i 0) table)

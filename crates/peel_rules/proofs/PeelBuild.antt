@@ -15,7 +15,7 @@ use Rattle.peel_rules.specs.Machine.{noEdge, sideNo, addEdge, build, emp
 use Rattle.peel_rules.proofs.PeelBasic.{pivot-of, touches-a, touches-b, touches-c}
 use Rattle.peel_rules.proofs.PeelXor.{Numbered, edgesN, xorN, xor-below, byte-rises, xor-snoc, degree-snoc, xorIf}
 use Rattle.peel_rules.proofs.PeelRefines.{sideW, numberW, Cell, Named, side-small}
-use Rattle.peel_rules.proofs.PeelWidth.{zeros}
+use Rattle.gf2.proofs.OneValue.{zeros-at}
 use Rattle.gf2.specs.Equation.{Each}
 use Rattle.peeling.specs.declared.numbers.Edge.{Edge}
 
@@ -152,7 +152,7 @@ build-cells n i (e ∷ es) ns g va z c =
 
 pub empty-cell : (n v : ℕ) → Wrapped [] (empty n) v
 unfolding empty xorN degree edgesN
-empty-cell n v = record { byte = zeros n v; xor = zeros n v }
+empty-cell n v = record { byte = zeros-at n v; xor = zeros-at n v }
 
 pub empty-sized : (n : ℕ) → Sized n (empty n)
 unfolding empty

@@ -149,7 +149,7 @@ off-length v (true ∷ bs) (e ∷ es) = go (touches v e) (off-length v bs es)
 off-length v (false ∷ bs) (e ∷ es) = ap suc (off-length v bs es)
 
 -- the degrees in a set are at most those in a larger set
-within-degree : (v : ℕ) (ms bs : List Bool) (es : List Edge) → Within ms bs → degree v (pick ms es) ≤ degree v (pick bs es)
+pub within-degree : (v : ℕ) (ms bs : List Bool) (es : List Edge) → Within ms bs → degree v (pick ms es) ≤ degree v (pick bs es)
 unfolding pick degree
 within-degree v [] bs es w = omega arith
 within-degree v (m ∷ ms) [] es w = absurd w
@@ -167,7 +167,7 @@ within-degree v (m ∷ ms) (b ∷ bs) (e ∷ es) w = go m b (w .0) (within-degre
     go false false q ih = ih
 
 -- a set in which v is not touched keeps within
-zero-parts : (v : ℕ) (e : Edge) (l : List Edge) (m : Bool) → degree v (cond m (e ∷ l) l) ≡ 0 → (degree v l ≡ 0) × (m ≡ true → touches v e ≡ false)
+pub zero-parts : (v : ℕ) (e : Edge) (l : List Edge) (m : Bool) → degree v (cond m (e ∷ l) l) ≡ 0 → (degree v l ≡ 0) × (m ≡ true → touches v e ≡ false)
 unfolding degree
 zero-parts v e l false h = (h, λ q. absurd (true≢false (sym q)))
 zero-parts v e l true h = go (touches v e) refl h
@@ -225,7 +225,7 @@ without-length v (d ∷ es) {e} h = go (touches v d) (without-length v es) h
     go true ih g = refl
     go false ih g = ap suc (ih g)
 
-tight-zero : (d : ℕ) → d ≤ 1 → (0 < d → 2 ≤ d) → d ≡ 0
+pub tight-zero : (d : ℕ) → d ≤ 1 → (0 < d → 2 ≤ d) → d ≡ 0
 tight-zero zero h t = refl
 tight-zero (suc d) h t = absurd (omega (arith, t (omega arith)))
 

@@ -12,13 +12,9 @@ use lib.Pow.{pow-pos}
 use Rattle.peel_rules.specs.Peel.{Peeled, peel, fillOne, fill, solved, answer}
 use Rattle.peel_rules.proofs.PeelSolved.{edgesOf, peel-all, solved-is}
 use Rattle.gf2.specs.Equation.{Each}
+use Rattle.gf2.proofs.OneValue.{zeros-at}
 use Rattle.peel_rules.specs.Edges.{pivot, first, second}
 use Rattle.peeling.specs.declared.numbers.Edge.{Edge}
-
-pub zeros : (n w : ℕ) → _≡_ {A = ℕ} (getD (replicate n 0) w 0) 0
-zeros zero w = refl
-zeros (suc n) zero = refl
-zeros (suc n) (suc w) = zeros n w
 
 module _ (k : ℕ) where
   abbrev Narrow : List ℕ → Type 0
@@ -41,4 +37,4 @@ module _ (k : ℕ) where
   -- W
   pub answer-narrow : (n : ℕ) (es : List Edge) (x : List ℕ) → Each (λ e. e .value < 2 ^ k) es → answer n es ≡ solved x → (w : ℕ) → getD x w 0 < 2 ^ k
   answer-narrow n es x v h w =
-      rw (solved-is n es h .1) (fill-narrow (peel n es .peeled) (replicate n 0) (peel-all (λ e. e .value < 2 ^ k) n es v .gone) (λ i. rw (zeros n i) (pow-pos k)) w)
+      rw (solved-is n es h .1) (fill-narrow (peel n es .peeled) (replicate n 0) (peel-all (λ e. e .value < 2 ^ k) n es v .gone) (λ i. rw (zeros-at n i) (pow-pos k)) w)

@@ -23,10 +23,7 @@ constantOf e = e .c
 unfoldable pub picture : ℕ → List Equation → List ℕ
 picture n rows = laid n (map varsOf rows) ++ (replicate n 0 ++ map lengthOf rows)
 
--- where the scratch row and the lengths begin
-abbrev pub scratchAt : ℕ → ℕ → ℕ
-scratchAt n m = m * n
-
+-- where the lengths begin
 abbrev pub lengthsAt : ℕ → ℕ → ℕ
 lengthsAt n m = m * n + n
 

@@ -29,12 +29,6 @@ bad r [] zero e z = absurd (z refl)
 bad r [] (suc c) e z = refl
 bad r (v ∷ vs) c e z = absurd (omega arith)
 
-idle : (us : List ℕ) (a : ℕ) (vs : List ℕ) (c : ℕ) → length vs ≢ 0 → length us ≡ 0 → meeting (eqn us a) (eqn vs c) ≡ both (eqn us a) (eqn vs c)
-unfolding meeting
-idle us a [] c f e = absurd (f refl)
-idle [] a (v ∷ vs) c f e = refl
-idle (u ∷ us) a (v ∷ vs) c f e = absurd (omega arith)
-
 stay : (us : List ℕ) (a : ℕ) (vs : List ℕ) (c : ℕ) → length vs ≢ 0 → length us ≢ 0 → firstOf us < firstOf vs → meeting (eqn us a) (eqn vs c) ≡ both (eqn us a) (eqn vs c)
 unfolding meeting
 stay us a [] c f g h = absurd (f refl)
@@ -60,9 +54,6 @@ module _ (r s : Equation) where
 
   pub meeting-clash : length (s .vars) ≡ 0 → s .c ≢ 0 → meeting r s ≡ clash
   meeting-clash e z = bad r (s .vars) (s .c) e z
-
-  pub meeting-idle : length (s .vars) ≢ 0 → length (r .vars) ≡ 0 → meeting r s ≡ both r s
-  meeting-idle f e = idle (r .vars) (r .c) (s .vars) (s .c) f e
 
   module _ (f : length (s .vars) ≢ 0) (g : length (r .vars) ≢ 0) where
     pub meeting-stay : getD (r .vars) 0 0 < getD (s .vars) 0 0 → meeting r s ≡ both r s
