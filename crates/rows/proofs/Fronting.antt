@@ -1,12 +1,12 @@
 -- Fronts of two stretches that change places, some elements a turn.
 use mathlib.Core.Path.{_≡_, refl, sym, ap, ap₂, _∙_}
-use mathlib.Core.List.{List, _++_}
+use mathlib.Core.List.{List, [], _∷_, _++_}
 use Prim.Native.Nat.{ℕ, _+_, _-_, _<_, _≤_}
-use native.Mathlib.Nat.{add-sub-cancel-left}
+use native.Mathlib.Nat.{add-zero}
 use native.Mathlib.Omega.{arith}
-use lib.ListN.{length, take, drop, replicate, length-replicate}
+use lib.ListN.{length, getD, set}
 use Rattle.areas.specs.Stretch.{stretch, put, exchanged}
-use Rattle.areas.proofs.Stretch.{put-none, put-then, put-comm, put-all, length-put, length-stretch, stretch-none, stretch-split, stretch-put-before, stretch-put-after}
+use Rattle.areas.proofs.Stretch.{put-none, put-then, put-comm, put-more, set-is-put, length-put, length-stretch, stretch-none, stretch-snoc, stretch-split, stretch-put-before, stretch-put-after}
 use Rattle.rows.specs.Front.{Exchanged}
 
 -- i of each, and then w of each behind them
@@ -94,14 +94,33 @@ front-end {d} {d′} {p} {q} {k} {n} {i₀} {i} x y l h =
           ∙ ap (λ (u : ℕ). exchanged p q u d) e;
     }
 
--- w elements from c on, read into an array
-block-read : (w c : ℕ) (d : List ℕ) → c + w ≤ length d → put 0 (take (c + w - c) (drop c d)) (replicate w 0) ≡ stretch c w d
-unfolding stretch
-block-read w c d k =
-    let s : length (stretch c w d) ≡ w = length-stretch c w d k in
-    rw (add-sub-cancel-left c w) (put-all (take w (drop c d)) (replicate w 0) (s ∙ sym (length-replicate {A = ℕ} w 0)))
+-- ---- four of each, read before one is written
 
--- w of each, through two arrays
-pub block-done : (w : ℕ) (d a b e f : List ℕ) (p q : ℕ) → p + w ≤ q → q + w ≤ length d → a ≡ put 0 (take (p + w - p) (drop p d)) (replicate w 0)
-    → b ≡ put 0 (take (q + w - q) (drop q d)) (replicate w 0) → e ≡ put q a d → f ≡ put p b e → f ≡ exchanged p q w d
-block-done w d a b e f p q h g ea eb ee ef = rw (ef, ee, ea, eb, block-read w p d (omega arith), block-read w q d g)
+four : ℕ → List ℕ → List ℕ
+four b l = getD l b 0 ∷ getD l (b + 1) 0 ∷ getD l (b + 2) 0 ∷ getD l (b + 3) 0 ∷ []
+
+four-read : (b : ℕ) (l : List ℕ) → b + 4 ≤ length l → stretch b 4 l ≡ four b l
+unfolding four
+four-read b l h =
+    rw (stretch-snoc b 3 l (omega arith), stretch-snoc b 2 l (omega arith), stretch-snoc b 1 l (omega arith), stretch-snoc b 0 l (omega arith), stretch-none b l, add-zero b)
+
+four-set : (b x y z w : ℕ) (l : List ℕ) → b + 4 ≤ length l → set (set (set (set l b x) (b + 1) y) (b + 2) z) (b + 3) w ≡ put b (x ∷ y ∷ z ∷ w ∷ []) l
+four-set b x y z w l h =
+    rw (set-is-put b x l (omega arith))
+    (ap (λ (o : List ℕ). set (set o (b + 2) z) (b + 3) w) (put-more b y (x ∷ []) l (omega arith))
+    ∙ ap (λ (o : List ℕ). set o (b + 3) w) (put-more b z (x ∷ y ∷ []) l (omega arith))
+    ∙ put-more b w (x ∷ y ∷ z ∷ []) l (omega arith))
+
+pub four-done : (d : List ℕ) (p q : ℕ) → p + 4 ≤ q → q + 4 ≤ length d
+    → set (set (set (set (set (set (set (set d q (getD d p 0)) (q + 1) (getD d (p + 1) 0)) (q + 2) (getD d (p + 2) 0)) (q + 3) (getD d (p + 3) 0))
+    p (getD d q 0)) (p + 1) (getD d (q + 1) 0)) (p + 2) (getD d (q + 2) 0)) (p + 3) (getD d (q + 3) 0) ≡ exchanged p q 4 d
+unfolding four
+four-done d p q h g =
+    ap (λ (o : List ℕ). set (set (set (set o p (getD d q 0)) (p + 1) (getD d (q + 1) 0)) (p + 2) (getD d (q + 2) 0)) (p + 3) (getD d (q + 3) 0))
+    (four-set q (getD d p 0) (getD d (p + 1) 0) (getD d (p + 2) 0) (getD d (p + 3) 0) d g)
+    ∙ four-set p (getD d q 0) (getD d (q + 1) 0) (getD d (q + 2) 0) (getD d (q + 3) 0) (put q (four p d) d) (omega (arith, length-put q (four p d) d g))
+    ∙ ap₂ (λ (x y : List ℕ). put p x (put q y d)) (sym (four-read q d g)) (sym (four-read p d (omega arith)))
+
+-- the same twice, one behind the other
+pub twice-done : (w : ℕ) (d e f : List ℕ) (p q : ℕ) → p + (w + w) ≤ q → q + (w + w) ≤ length d → e ≡ exchanged p q w d → f ≡ exchanged (p + w) (q + w) w e → f ≡ exchanged p q (w + w) d
+twice-done w d e f p q h g ee ef = ef ∙ ap (exchanged (p + w) (q + w) w) ee ∙ exchanged-then d p q w w h g

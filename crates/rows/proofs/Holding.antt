@@ -134,7 +134,7 @@ module _ {n m : ℕ} {rows : List Equation} {rest rest′ numbers words : List �
   -- ---- two rows that change places
 
   pub exchange-rows : (i j k : ℕ) → i < j → j < m → length (rowAt rows i .vars) ≤ k → length (rowAt rows j .vars) ≤ k → k ≤ n
-      → Drawn n m (swapped i j rows) rest rest′ (set (set (exchanged (i * n) (j * n) k numbers) (m * n + n + i) (length (rowAt rows j .vars))) (m * n + n + j) (length (rowAt rows i .vars)))
+      → Drawn n m (swapped i j rows) rest rest′ (exchanged (i * n) (j * n) k (set (set numbers (m * n + n + i) (length (rowAt rows j .vars))) (m * n + n + j) (length (rowAt rows i .vars))))
       (set (set words i (rowAt rows j .c)) j (rowAt rows i .c))
   exchange-rows i j k h l hi hj g =
       let hm : i < m = omega arith in
@@ -142,17 +142,16 @@ module _ {n m : ℕ} {rows : List Equation} {rest rest′ numbers words : List �
       let li : ℕ = length (rowAt rows i .vars) in
       let lj : ℕ = length (rowAt rows j .vars) in
       let vss : List (List ℕ) = map varsOf rows in
-      let now-i : Narrow n (set vss j (rowAt rows i .vars)) = narrow-set n j (rowAt rows i .vars) vss (row-narrow i hm) narrow in
-      let now : Narrow n (set (set vss j (rowAt rows i .vars)) i (rowAt rows j .vars)) = narrow-set n i (rowAt rows j .vars) (set vss j (rowAt rows i .vars)) (row-narrow j l) now-i in
-      let long : length (set (set vss j (rowAt rows i .vars)) i (rowAt rows j .vars)) ≡ m = simp length-set many in
+      let lens : List ℕ = map lengthOf rows in
+      let long : length (set (set lens i lj) j li) ≡ m = simp length-set all in
       draw n m (swapped i j rows) rest rest′ _ _
       (rw (
         as-parts,
-        parts-exchanged n m vss (map lengthOf rows) rest narrow many all i hm j k h l (rw (vars-at rows i) hi) (rw (vars-at rows j) hj) g,
+        parts-set-length n m vss lens rest narrow many all i hm lj,
+        parts-set-length n m vss (set lens i lj) rest narrow many (length-set lens i lj ∙ all) j l li,
+        parts-exchanged n m vss (set (set lens i lj) j li) rest narrow many long i hm j k h l (rw (vars-at rows i) hi) (rw (vars-at rows j) hj) g,
         vars-at rows i,
         vars-at rows j,
-        parts-set-length n m (set (set vss j (rowAt rows i .vars)) i (rowAt rows j .vars)) (map lengthOf rows) rest now long all i hm lj,
-        parts-set-length n m (set (set vss j (rowAt rows i .vars)) i (rowAt rows j .vars)) (set (map lengthOf rows) i lj) rest now long (length-set (map lengthOf rows) i lj ∙ all) j l li,
         two varsOf,
         two lengthOf,
         set-comm vss j i (rowAt rows i .vars) (rowAt rows j .vars) ne,

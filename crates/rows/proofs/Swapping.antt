@@ -1,13 +1,13 @@
 -- What `swap_rows` asks for and leaves, in the values that it reads.
-use mathlib.Core.Path.{_≡_, refl, sym, ap, ap₂, _∙_, subst}
-use mathlib.Core.List.{List, [], _∷_}
+use mathlib.Core.Path.{_≡_}
+use mathlib.Core.List.{List}
 use Prim.Native.Nat.{ℕ, _+_, _*_, _≤_, _<_}
 use native.Mathlib.Omega.{arith}
-use lib.ListN.{length, getD, set}
+use lib.ListN.{length, getD, set, length-set}
 use Rattle.areas.proofs.Offsets.{row-before}
 use Rattle.gf2.specs.Equation.{Equation}
 use Rattle.rows.specs.Front.{Exchanged}
-use Rattle.rows.specs.Picture.{Drawn, Longer, rowAt, swapped}
+use Rattle.rows.specs.Picture.{Drawn, Longer, swapped}
 use Rattle.rows.proofs.Holding.{row-narrow, row-length, row-constant, exchange-rows}
 
 module _ {n m : ℕ} {rows : List Equation} {rest rest′ numbers words : List ℕ} (d : Drawn n m rows rest rest′ numbers words) (i j k : ℕ) (h : i < j) (l : j < m)
@@ -19,12 +19,15 @@ module _ {n m : ℕ} {rows : List Equation} {rest rest′ numbers words : List �
   narrow : k ≤ n
   narrow = longer .least n (omega (arith, row-length d i i-in, row-narrow d i i-in)) (omega (arith, row-length d j l, row-narrow d j l))
 
-  pub swap-fits : (k ≤ n) × (i * n + n ≤ j * n) × (j * n + n ≤ length numbers)
-  swap-fits = (narrow, row-before i j n h, omega (arith, row-before j m n l, d .numbers-room))
+  pub swap-length : length (set (set numbers (m * n + n + i) (getD numbers (m * n + n + j) 0)) (m * n + n + j) (getD numbers (m * n + n + i) 0)) ≡ length numbers
+  swap-length = simp length-set
 
-  pub swap-done : (numbers′ : List ℕ) (r : ℕ) → Exchanged numbers (i * n) (j * n) k n numbers′ r
-      → Drawn n m (swapped i j rows) rest rest′ (set (set numbers′ (m * n + n + i) (getD numbers (m * n + n + j) 0)) (m * n + n + j) (getD numbers (m * n + n + i) 0))
-      (set (set words i (getD words j 0)) j (getD words i 0))
+  pub swap-fits : (k ≤ n) × (i * n + n ≤ j * n) × (j * n + n ≤ length (set (set numbers (m * n + n + i) (getD numbers (m * n + n + j) 0)) (m * n + n + j) (getD numbers (m * n + n + i) 0)))
+  swap-fits = (narrow, row-before i j n h, rw swap-length (omega (arith, row-before j m n l, d .numbers-room)))
+
+  pub swap-done : (numbers′ : List ℕ) (r : ℕ)
+      → Exchanged (set (set numbers (m * n + n + i) (getD numbers (m * n + n + j) 0)) (m * n + n + j) (getD numbers (m * n + n + i) 0)) (i * n) (j * n) k n numbers′ r
+      → Drawn n m (swapped i j rows) rest rest′ numbers′ (set (set words i (getD words j 0)) j (getD words i 0))
   swap-done numbers′ r x =
       let a = row-length d i i-in in
       let b = row-length d j l in

@@ -86,12 +86,12 @@ pub fn swap_rows(numbers: &mut [u32], words: &mut [u64], n: usize, m: usize, i: 
     let li = numbers[lens + i];
     let lj = numbers[lens + j];
     let k = longer(li, lj);
-    front::exchange_front(numbers, i * n, j * n, k, n);
     numbers[lens + i] = lj;
     numbers[lens + j] = li;
     let c = words[i];
     words[i] = words[j];
     words[j] = c;
+    front::exchange_front(numbers, i * n, j * n, k, n);
 }
 
 // Row `i` becomes its sum with row `j`.

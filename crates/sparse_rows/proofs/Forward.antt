@@ -1,25 +1,39 @@
 -- The paths of a meeting, and the turns of the loops over rows.
-use mathlib.Core.Path.{_≡_, refl, sym, ap, ap₂, _∙_, subst}
+use mathlib.Core.Path.{_≡_, refl, sym, ap, _∙_, subst}
 use mathlib.Core.Logic.{_≢_}
 use mathlib.Core.List.{List, [], _∷_}
 use Prim.Native.Nat.{ℕ, zero, suc, _+_, _*_, _≤_, _<_}
 use native.Mathlib.Omega.{arith}
 use lib.ListN.{length, getD, set}
-use lib.Seq.{getD-set-same, getD-set-other, set-getD, set-set}
+use lib.Seq.{getD-set-same, getD-set-other, set-getD}
 use Rattle.areas.proofs.Offsets.{row-before}
-use Rattle.gf2.specs.Equation.{Equation, eqn, sum}
+use Rattle.gf2.specs.Equation.{Equation, eqn, sum, Rising, symDiff}
+use Rattle.gf2.proofs.SymDiff.{rising-symDiff-heads}
 use Rattle.rows.specs.Picture.{Drawn, rowAt, swapped, added}
-use Rattle.rows.proofs.Holding.{row-narrow, row-length, row-first, row-constant, rest-kept, carried}
-use Rattle.sparse_rules.specs.Eliminate.{meeting}
-use Rattle.sparse_rows.specs.Reduce.{MetBy, clashed, vanished, paired, MeetsRows, summedWith}
-use Rattle.sparse_rows.specs.declared.echelon.Met.{Met}
-use Rattle.sparse_rows.specs.declared.echelon.Met.the-variants.{Clash, Identity, Both}
-use Rattle.sparse_rules.proofs.Cases.{meeting-skip, meeting-clash, meeting-stay, meeting-swap, meeting-sum, summed-identity, summed-clash, summed-swap, summed-stay}
+use Rattle.rows.proofs.Holding.{row-rising, row-narrow, row-length, row-first, row-constant, rest-kept}
+use Rattle.sparse_rules.specs.Eliminate.{meeting, summed}
+use Rattle.sparse_rows.specs.Reduce.{MetBy, clashed, vanished, paired, again}
+use Rattle.sparse_rows.specs.declared.echelon.Met.the-variants.{Clash, Identity, Both, Summed}
+use Rattle.sparse_rules.proofs.Cases.{meeting-skip, meeting-clash, meeting-stay, meeting-swap, meeting-sum, summed-identity, summed-clash, summed-swap}
 
 -- a list without elements begins with nothing
 blank : (vs : List ℕ) → length vs ≡ 0 → getD vs 0 0 ≡ 0
 blank [] e = refl
 blank (v ∷ vs) e = absurd (omega arith)
+
+-- a rising list begins at its bound or above
+begins : (b n : ℕ) (vs : List ℕ) → Rising b n vs → length vs ≢ 0 → b ≤ getD vs 0 0
+begins b n [] r f = absurd (f refl)
+begins b n (v ∷ vs) r f = r .0
+
+-- the sum of two rows that begin alike begins above them
+sum-above : (n : ℕ) (us vs : List ℕ) → Rising 0 n us → Rising 0 n vs → length us ≢ 0 → length vs ≢ 0 → getD us 0 0 ≡ getD vs 0 0 → length (symDiff us vs) ≢ 0
+    → getD vs 0 0 < getD (symDiff us vs) 0 0
+sum-above n [] vs r s f g e h = absurd (f refl)
+sum-above n (u ∷ us) [] r s f g e h = absurd (g refl)
+sum-above n (u ∷ us) (v ∷ vs) r s f g e h =
+    let a : suc u ≤ getD (symDiff (u ∷ us) (v ∷ vs)) 0 0 = begins (suc u) n (symDiff (u ∷ us) (v ∷ vs)) (rising-symDiff-heads 0 n u v us vs e r s) h in
+    omega arith
 
 -- rows i and j as they were
 unchanged : (rows : List Equation) (i j : ℕ) → rows ≡ set (set rows i (rowAt rows i)) j (rowAt rows j)
@@ -45,40 +59,12 @@ module _ {n m : ℕ} {rows : List Equation} {rest rest′ numbers words : List �
     pub row-in : i * n < length numbers
     row-in = omega (arith, row-before i m n h, d .numbers-room)
 
-    -- where row j begins
-    pub begin-in : getD numbers (m * n + n + i) 0 ≢ 0 → (j : ℕ) → j < m → j * n < m * n
-    begin-in f j l = let g = full f in omega (arith, row-narrow d i h, row-before j m n l)
-
   module _ (i j : ℕ) (h : i < j) (l : j < m) where
     i-in : i < m
     i-in = omega arith
 
     same-rows : Drawn n m (set (set rows i (rowAt rows i)) j (rowAt rows j)) rest rest′ numbers words
     same-rows = subst (λ (r : List Equation). Drawn n m r rest rest′ numbers words) (unchanged rows i j) d
-
-    -- ---- row i is a sum
-
-    pub sum-clash : getD numbers (m * n + n + i) 0 ≡ 0 → getD words i 0 ≢ 0 → MetBy n m i j rows rest rest′ (summedWith (rowAt rows i) (rowAt rows j)) numbers words Clash
-    sum-clash z ne = clashed (summed-clash (rowAt rows i) _ (rowAt rows j) (empty i i-in z) (λ e. ne (row-constant d i i-in ∙ e))) (rest-kept d)
-
-    pub sum-identity : getD numbers (m * n + n + i) 0 ≡ 0 → getD words i 0 ≡ 0 → MetBy n m i j rows rest rest′ (summedWith (rowAt rows i) (rowAt rows j)) numbers words Identity
-    sum-identity z e =
-        vanished (rowAt rows i) (summed-identity (rowAt rows i) _ (rowAt rows j) (empty i i-in z) (sym (row-constant d i i-in) ∙ e))
-        (subst (λ (r : List Equation). Drawn n m r rest rest′ numbers words) (sym (set-getD rows i (eqn [] 0))) d)
-
-    module _ (fi : getD numbers (m * n + n + i) 0 ≢ 0) where
-      -- the first variable of row j stands where row j begins, also where it has none: there are zeros
-      first-j : getD numbers (j * n) 0 ≡ getD (rowAt rows j .vars) 0 0
-      first-j = row-first d j l (let g = full i i-in fi in omega (arith, row-narrow d i i-in))
-
-      pub sum-swap : getD numbers (m * n + n + j) 0 ≢ 0 → getD numbers (j * n) 0 < getD numbers (i * n) 0 → (numbers′ words′ : List ℕ) → Drawn n m (swapped i j rows) rest rest′ numbers′ words′
-          → MetBy n m i j rows rest rest′ (summedWith (rowAt rows i) (rowAt rows j)) numbers′ words′ Both
-      sum-swap fj k numbers′ words′ b =
-          paired (rowAt rows j) (rowAt rows i) (summed-swap (rowAt rows i) _ (rowAt rows j) (full i i-in fi) (omega (arith, first i i-in fi, first-j))) (full j l fj) b
-
-      pub sum-stay : getD numbers (i * n) 0 ≤ getD numbers (j * n) 0 → MetBy n m i j rows rest rest′ (summedWith (rowAt rows i) (rowAt rows j)) numbers words Both
-      sum-stay k =
-          paired (rowAt rows i) (rowAt rows j) (summed-stay (rowAt rows i) _ (rowAt rows j) (full i i-in fi) (omega (arith, first i i-in fi, first-j))) (full i i-in fi) same-rows
 
     -- ---- a meeting
 
@@ -111,30 +97,30 @@ module _ {n m : ℕ} {rows : List Equation} {rest rest′ numbers words : List �
           at-j : rowAt (added i j rows) j ≡ rowAt rows j
           at-j = let ne : j ≢ i = omega arith in getD-set-other rows i j (sum (rowAt rows i) (rowAt rows j)) (eqn [] 0) ne
 
-          is-sum : summedWith (rowAt (added i j rows) i) (rowAt (added i j rows) j) ≡ meeting (rowAt rows i) (rowAt rows j)
+          is-sum : meeting (rowAt rows i) (rowAt rows j) ≡ summed total (getD (rowAt rows j .vars) 0 0) (rowAt rows j)
           unfolding total
-          is-sum =
-              ap₂ summedWith at-i at-j
-              ∙ sym (meeting-sum (rowAt rows i) (rowAt rows j) (full j l fj) (full i i-in fi) (sym (first i i-in fi) ∙ same ∙ first j l fj))
+          is-sum = meeting-sum (rowAt rows i) (rowAt rows j) (full j l fj) (full i i-in fi) (sym (first i i-in fi) ∙ same ∙ first j l fj)
 
-          -- row i was written twice
-          over : (i′ : Equation) → set (added i j rows) i i′ ≡ set rows i i′
-          over i′ = set-set rows i (sum (rowAt rows i) (rowAt rows j)) i′
+          total-length : getD numbers₁ (m * n + n + i) 0 ≡ length (total .vars)
+          total-length = row-length b i i-in ∙ ap (λ (e : Equation). length (e .vars)) at-i
 
-          onward : {numbers₂ words₂ : List ℕ} {r : Met} → MetBy n m i j (added i j rows) rest rest′ (summedWith (rowAt (added i j rows) i) (rowAt (added i j rows) j)) numbers₂ words₂ r
-              → MetBy n m i j rows rest rest′ (meeting (rowAt rows i) (rowAt rows j)) numbers₂ words₂ r
-          onward (clashed e k) = clashed (sym is-sum ∙ e) k
-          onward {numbers₂} {words₂} (vanished i′ e k) = vanished i′ (sym is-sum ∙ e) (subst (λ (r : List Equation). Drawn n m r rest rest′ numbers₂ words₂) (over i′) k)
-          onward {numbers₂} {words₂} (paired i′ j′ e f k) =
-              paired i′ j′ (sym is-sum ∙ e) f (subst (λ (r : List Equation). Drawn n m r rest rest′ numbers₂ words₂) (ap (λ (r : List Equation). set r j j′) (over i′)) k)
+          total-constant : getD words₁ i 0 ≡ total .c
+          total-constant = row-constant b i i-in ∙ ap (λ (e : Equation). e .c) at-i
 
-          -- row j is as it was
-          pub sum-filled : getD numbers₁ (m * n + n + j) 0 ≢ 0
-          sum-filled z = full j l fj (ap (λ (e : Equation). length (e .vars)) (sym at-j) ∙ sym (row-length b j l) ∙ z)
+          pub sum-clash : getD numbers₁ (m * n + n + i) 0 ≡ 0 → getD words₁ i 0 ≢ 0 → MetBy n m i j rows rest rest′ (meeting (rowAt rows i) (rowAt rows j)) numbers₁ words₁ Clash
+          sum-clash z ne = clashed (is-sum ∙ summed-clash total _ (rowAt rows j) (sym total-length ∙ z) (λ e. ne (total-constant ∙ e))) (rest-kept b)
 
-          pub meet-sum : {numbers₂ words₂ : List ℕ} {r : Met} → MeetsRows summedWith n m i j numbers₁ words₁ numbers₂ words₂ r → MetBy n m i j rows rest rest′ (meeting (rowAt rows i) (rowAt rows j)) numbers₂ words₂ r
-          meet-sum {numbers₂} {words₂} {r} k =
-              onward (carried b (λ rows₁ x y. MetBy n m i j rows₁ x y (summedWith (rowAt rows₁ i) (rowAt rows₁ j)) numbers₂ words₂ r) k)
+          pub sum-identity : getD numbers₁ (m * n + n + i) 0 ≡ 0 → getD words₁ i 0 ≡ 0 → MetBy n m i j rows rest rest′ (meeting (rowAt rows i) (rowAt rows j)) numbers₁ words₁ Identity
+          unfolding total
+          sum-identity z e = vanished total (is-sum ∙ summed-identity total _ (rowAt rows j) (sym total-length ∙ z) (sym total-constant ∙ e)) b
+
+          pub sum-again : getD numbers₁ (m * n + n + i) 0 ≢ 0 → MetBy n m i j rows rest rest′ (meeting (rowAt rows i) (rowAt rows j)) numbers₁ words₁ Summed
+          unfolding total
+          sum-again f =
+              let g : length (total .vars) ≢ 0 = λ e. f (total-length ∙ e) in
+              let above : getD (rowAt rows j .vars) 0 0 < getD (total .vars) 0 0 =
+              sum-above n (rowAt rows i .vars) (rowAt rows j .vars) (row-rising d i i-in) (row-rising d j l) (full i i-in fi) (full j l fj) (sym (first i i-in fi) ∙ same ∙ first j l fj) g in
+              again total (is-sum ∙ summed-swap total _ (rowAt rows j) g above ∙ sym (meeting-swap total (rowAt rows j) (full j l fj) g above)) g (full j l fj) above b
 
     -- row j begins above row i: it has variables, as an empty row begins with 0
     pub meet-pass : getD numbers (m * n + n + i) 0 ≢ 0 → getD numbers (i * n) 0 < getD numbers (j * n) 0 → MetBy n m i j rows rest rest′ (meeting (rowAt rows i) (rowAt rows j)) numbers words Both

@@ -5,7 +5,7 @@ use mathlib.Core.List.{List, [], _∷_, _++_, append-assoc}
 use Prim.Native.Nat.{ℕ, zero, suc, _+_, _-_, _≤_, _<_}
 use native.Mathlib.Omega.{arith}
 use lib.ListN.{length, set, take, drop, length-append, length-drop, take-append-drop, List·getD-append}
-use lib.Seq.{getD-append-seam, set-append-seam, set-append-left, append-snoc, split-at, length-take-le, getD-take}
+use lib.Seq.{getD-set-same, getD-set-other, set-set, getD-append-seam, set-append-seam, set-append-left, append-snoc, split-at, length-take-le, getD-take}
 use Rattle.gf2.specs.Equation.{Equation, eqn}
 use Rattle.gf2.specs.Result.{Result, unsolvable, ok}
 use Rattle.rows.specs.Picture.{rowAt}
@@ -26,6 +26,22 @@ module _ (k i j : ℕ) (rows : List Equation) where
   pub loop-both : (i′ j′ : Equation) → meeting (rowAt rows i) (rowAt rows j) ≡ both i′ j′ → meetLoop (suc k) i j rows ≡ meetLoop k i (suc j) (set (set rows i i′) j j′)
   unfolding meetLoop
   loop-both i′ j′ e = rw (e, meetLoop)
+
+-- a row i that gives the same against row j is in its place
+pub loop-again : (k i j : ℕ) (rows : List Equation) (i′ : Equation) → i < j → i < length rows → meeting (rowAt rows i) (rowAt rows j) ≡ meeting i′ (rowAt rows j)
+    → meetLoop (suc k) i j (set rows i i′) ≡ meetLoop (suc k) i j rows
+loop-again k i j rows i′ h l e = go (meeting (rowAt rows i) (rowAt rows j)) refl
+  where
+    same : meeting (rowAt (set rows i i′) i) (rowAt (set rows i i′) j) ≡ meeting (rowAt rows i) (rowAt rows j)
+    same =
+        let ne : j ≢ i = omega arith in
+        ap₂ meeting (getD-set-same rows i i′ (eqn [] 0) l) (getD-set-other rows i j i′ (eqn [] 0) ne) ∙ sym e
+
+    go : (o : Meeting) → meeting (rowAt rows i) (rowAt rows j) ≡ o → meetLoop (suc k) i j (set rows i i′) ≡ meetLoop (suc k) i j rows
+    go clash q = loop-clash k i j (set rows i i′) (same ∙ q) ∙ sym (loop-clash k i j rows q)
+    go (identity x) q = loop-identity k i j (set rows i i′) x (same ∙ q) ∙ ap {B = Result (List Equation)} ok (set-set rows i i′ x) ∙ sym (loop-identity k i j rows x q)
+    go (both x y) q =
+        loop-both k i j (set rows i i′) x y (same ∙ q) ∙ ap (λ (r : List Equation). meetLoop k i (suc j) (set r j y)) (set-set rows i i′ x) ∙ sym (loop-both k i j rows x y q)
 
 pub loop-over : (k i j : ℕ) (rows : List Equation) → k ≡ 0 → meetLoop k i j rows ≡ ok rows
 unfolding meetLoop

@@ -1,5 +1,5 @@
 -- The turns of the two loops over rows: row i meets the later rows, and every row but the last is an outer row.
-use mathlib.Core.Path.{_≡_, refl, sym, ap, ap₂, _∙_, subst}
+use mathlib.Core.Path.{_≡_, refl, sym, ap, ap₂, _∙_, subst, subst₂}
 use mathlib.Core.Logic.{_≢_}
 use mathlib.Core.List.{List, [], _++_}
 use Prim.Native.Nat.{ℕ, zero, suc, pred, _+_, _-_, _*_, _≤_, _<_}
@@ -12,14 +12,14 @@ use Rattle.gf2.specs.Result.{Result, unsolvable, ok}
 use Rattle.rows.specs.Picture.{Drawn, Kept, Held, rowsOf, rowAt}
 use Rattle.rows.proofs.Holding.{row-constant, row-length, rest-kept, rows-are, held, carried}
 use Rattle.sparse_rules.specs.Eliminate.{both, meeting, outerRow, outerRows, echelonForm}
-use Rattle.sparse_rows.specs.Reduce.{MetBy, clashed, vanished, paired, ReducedBy, refused, reduced, MeetsRows, Reduces, Alike, Passes}
+use Rattle.sparse_rows.specs.Reduce.{MetBy, clashed, vanished, paired, again, ReducedBy, refused, reduced, MeetsRows, Reduces, Alike, Passes}
 use Rattle.sparse_rows.specs.declared.echelon.Met.{Met}
-use Rattle.sparse_rows.specs.declared.echelon.Met.the-variants.{Clash, Identity, Both}
+use Rattle.sparse_rows.specs.declared.echelon.Met.the-variants.{Clash, Identity, Both, Summed}
 use Rattle.sparse_rows.specs.declared.echelon.Reduction.{Reduction}
 use Rattle.sparse_rows.specs.declared.echelon.Reduction.the-variants.{Unsolvable, Reduced}
 use Rattle.sparse_rows.specs.Loop.{meetLoop, StandsAt}
-use Rattle.sparse_rows.proofs.Loops.{loop-clash, loop-identity, loop-both, loop-over, followed, outer-blank, outer-wrong, outer-loop}
-use Rattle.sparse_rows.proofs.Forward.{empty, full}
+use Rattle.sparse_rows.proofs.Loops.{loop-clash, loop-identity, loop-both, loop-again, loop-over, followed, outer-blank, outer-wrong, outer-loop}
+use Rattle.sparse_rows.proofs.Forward.{empty, full, first}
 
 module _ {n m d : ℕ} {rows₀ : List Equation} {rest rest′ numbers words : List ℕ} where
   -- what a loop that went through to the end has come to
@@ -64,6 +64,48 @@ module _ {n m d i : ℕ} {o : Result (List Equation)} {rest rest′ numbers word
               filled = λ z. f (ap (λ (e : Equation). length (e .vars)) (sym (now-i i′ j′)) ∙ z);
               future = ap (λ (x : ℕ). meetLoop (d - (j + 1)) i x (set (set (s .rows) i i′) j j′)) (add-one j) ∙ sym (loop-both (d - (j + 1)) i j (s .rows) i′ j′ e) ∙ one-more;
             }
+        go (again i′ e f g a q) p = absurd (let z : _≡_ {A = ℕ} 0 1 = cc in omega arith)
+
+    -- a sum stands where row i stood
+    pub stands-again : r ≡ Summed → StandsAt n m d i o rest rest′ numbers′ words′ j
+    stands-again = go met
+      where
+        go : {r : Met} → MetBy n m i j (s .rows) rest rest′ (meeting (rowAt (s .rows) i) (rowAt (s .rows) j)) numbers′ words′ r → r ≡ Summed → StandsAt n m d i o rest rest′ numbers′ words′ j
+        go (clashed e q) p = absurd (let z : _≡_ {A = ℕ} 0 1 = cc in omega arith)
+        go (vanished i′ e q) p = absurd (let z : _≡_ {A = ℕ} 0 1 = cc in omega arith)
+        go (paired i′ j′ e f q) p = absurd (let z : _≡_ {A = ℕ} 0 1 = cc in omega arith)
+        go (again i′ e f g a q) p =
+            let l : i < length (s .rows) = omega (arith, s .i-below, s .d-in, s .drawn .count) in
+            let now-i : rowAt (set (s .rows) i i′) i ≡ i′ = getD-set-same (s .rows) i i′ (eqn [] 0) l in
+            let more : d - j ≡ suc (d - (j + 1)) = omega arith in
+            record {
+              rows = set (s .rows) i i′;
+              drawn = q;
+              i-below = s .i-below;
+              j-in = s .j-in;
+              d-in = s .d-in;
+              filled = λ z. f (ap (λ (e : Equation). length (e .vars)) (sym now-i) ∙ z);
+              future = ap (λ (k : ℕ). meetLoop k i j (set (s .rows) i i′)) more ∙ loop-again (d - (j + 1)) i j (s .rows) i′ (s .i-below) l e ∙ one-more;
+            }
+
+    -- .. and begins above row j, which has variables
+    pub again-apart : r ≡ Summed → Alike n m i j numbers′ → ⊥
+    again-apart = go met
+      where
+        go : {r : Met} → MetBy n m i j (s .rows) rest rest′ (meeting (rowAt (s .rows) i) (rowAt (s .rows) j)) numbers′ words′ r → r ≡ Summed → Alike n m i j numbers′ → ⊥
+        go (clashed e q) p x = absurd (let z : _≡_ {A = ℕ} 0 1 = cc in omega arith)
+        go (vanished i′ e q) p x = absurd (let z : _≡_ {A = ℕ} 0 1 = cc in omega arith)
+        go (paired i′ j′ e f q) p x = absurd (let z : _≡_ {A = ℕ} 0 1 = cc in omega arith)
+        go (again i′ e f g a q) p x =
+            let hi : i < m = omega (arith, s .i-below, s .d-in) in
+            let hj : j < m = omega (arith, s .d-in) in
+            let ne : j ≢ i = omega (arith, s .i-below) in
+            let now-i : rowAt (set (s .rows) i i′) i ≡ i′ = getD-set-same (s .rows) i i′ (eqn [] 0) (omega (arith, s .drawn .count)) in
+            let now-j : rowAt (set (s .rows) i i′) j ≡ rowAt (s .rows) j = getD-set-other (s .rows) i j i′ (eqn [] 0) ne in
+            let fj : getD numbers′ (m * n + n + j) 0 ≢ 0 = λ z. g (ap (λ (e : Equation). length (e .vars)) (sym now-j) ∙ sym (row-length q j hj) ∙ z) in
+            let u : getD numbers′ (i * n) 0 ≡ getD (i′ .vars) 0 0 = first q i hi (x .filled) ∙ ap (λ (e : Equation). getD (e .vars) 0 0) now-i in
+            let v : getD numbers′ (j * n) 0 ≡ getD (rowAt (s .rows) j .vars) 0 0 = first q j hj fj ∙ ap (λ (e : Equation). getD (e .vars) 0 0) now-j in
+            omega (arith, x .same fj)
 
 module _ {n m d i : ℕ} {o : Result (List Equation)} {rest rest′ numbers words : List ℕ} {j : ℕ} (s : StandsAt n m d i o rest rest′ numbers words j) where
   -- row i has variables, as the code sees it
@@ -75,6 +117,7 @@ module _ {n m d i : ℕ} {o : Result (List Equation)} {rest rest′ numbers word
   passes-none a =
       record {
         from = omega arith;
+        still = λ _. refl;
         alike = a;
         stands = record { rows = rowsOf n m numbers words; drawn = held (s .drawn); i-below = s .i-below; j-in = s .j-in; d-in = s .d-in; filled = λ z. s .filled (ap (λ (r : List Equation). length (rowAt r i .vars)) (sym (rows-are (s .drawn))) ∙ z); future = refl };
       }
@@ -89,7 +132,20 @@ module _ {n m d i : ℕ} {o : Result (List Equation)} {rest rest′ numbers word
 -- a turn of the loop after some that have passed rows
 pub passes-turn : {n m d i j j′ r : ℕ} {numbers words numbers₁ words₁ numbers₂ words₂ numbers₃ words₃ : List ℕ} {x : Met} → Passes n m d i j numbers words numbers₁ words₁ j′ → j′ < d
     → MeetsRows meeting n m i j′ numbers₁ words₁ numbers₂ words₂ x → x ≡ Both → Passes n m d i (j′ + 1) numbers₂ words₂ numbers₃ words₃ r → Passes n m d i j numbers words numbers₃ words₃ r
-passes-turn p h k e q = record { from = omega (arith, p .from, q .from); alike = q .alike; stands = stands-passed (stands-turn (p .stands) h k e) q }
+passes-turn p h k e q =
+    record { from = omega (arith, p .from, q .from); still = λ x. absurd (omega (arith, p .from, q .from)); alike = q .alike; stands = stands-passed (stands-turn (p .stands) h k e) q }
+
+-- .. and one after a sum, which meets row j′ again and passes it
+module _ {n m d i j j′ r : ℕ} {numbers words numbers₁ words₁ numbers₂ words₂ numbers₃ words₃ : List ℕ} {x : Met} (p : Passes n m d i j numbers words numbers₁ words₁ j′) (h : j′ < d)
+    (k : MeetsRows meeting n m i j′ numbers₁ words₁ numbers₂ words₂ x) (e : x ≡ Summed) (q : Passes n m d i j′ numbers₂ words₂ numbers₃ words₃ r) where
+  pub again-onward : j′ < r
+  again-onward =
+      let ne : r ≢ j′ = λ z. again-apart (p .stands) h k e (subst₂ (λ (j : ℕ) (l : List ℕ). Alike n m i j l) z (q .still z) (q .alike (omega arith))) in
+      omega (arith, q .from)
+
+  pub passes-again : Passes n m d i j numbers words numbers₃ words₃ r
+  passes-again =
+      record { from = omega (arith, p .from, q .from); still = λ z. absurd (omega (arith, p .from, again-onward)); alike = q .alike; stands = stands-passed (stands-again (p .stands) h k e) q }
 
 -- what is left of the loop over j gives what the whole gives
 pub record Rounding (n m d i : ℕ) (rows₀ : List Equation) (rest rest′ numbers words : List ℕ) (j : ℕ) : Type 0 where
@@ -129,6 +185,7 @@ module _ {n m d i : ℕ} {rows₀ : List Equation} {rest rest′ numbers words :
         go (clashed e q) p = failed (outerRow i (take d rows₀)) (sym (one-more (s .stands) h) ∙ loop-clash (d - (j + 1)) i j (s .stands .rows) e) q
         go (vanished i′ e q) p = absurd (let z : _≡_ {A = ℕ} 0 1 = cc in omega arith)
         go (paired i′ j′ e f q) p = absurd (let z : _≡_ {A = ℕ} 0 1 = cc in omega arith)
+        go (again i′ e f g a q) p = absurd (let z : _≡_ {A = ℕ} 0 1 = cc in omega arith)
 
     pub round-identity : r ≡ Identity → ReducedBy n m d rows₀ rest rest′ (outerRow i (take d rows₀)) numbers′ words′ Reduced
     round-identity = go (met (s .stands) h k)
@@ -138,6 +195,7 @@ module _ {n m d i : ℕ} {rows₀ : List Equation} {rest rest′ numbers words :
         go (clashed e q) p = absurd (let z : _≡_ {A = ℕ} 0 1 = cc in omega arith)
         go (vanished i′ e q) p = settled (outerRow i (take d rows₀)) (set (s .stands .rows) i i′) (sym (one-more (s .stands) h) ∙ loop-identity (d - (j + 1)) i j (s .stands .rows) i′ e) q
         go (paired i′ j′ e f q) p = absurd (let z : _≡_ {A = ℕ} 0 1 = cc in omega arith)
+        go (again i′ e f g a q) p = absurd (let z : _≡_ {A = ℕ} 0 1 = cc in omega arith)
 
 -- ---- every row but the last
 

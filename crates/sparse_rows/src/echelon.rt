@@ -6,7 +6,7 @@ ghost use lib.ListN.{getD};
 ghost use Rattle.answers.specs.Sizes.{maxVariables};
 ghost use Rattle.rows.specs.Picture.{Held};
 ghost use Rattle.sparse_rules.specs.Eliminate.{meeting, outerRow, echelonForm};
-ghost use Rattle.sparse_rows.specs.Reduce.{Alike, MeetsRows, Passes, Reduces, summedWith};
+ghost use Rattle.sparse_rows.specs.Reduce.{Alike, MeetsRows, Passes, Reduces};
 
 // What came of a meeting of row i and a later row j.
 pub enum Met {
@@ -15,6 +15,8 @@ pub enum Met {
     // Row i is 0 = 0 now.
     Identity,
     Both,
+    // Row i is the sum of the two now, and is to meet row j again.
+    Summed,
 }
 
 // What came of an elimination of rows.
@@ -23,34 +25,7 @@ pub enum Reduction {
     Reduced,
 }
 
-// Row `i` is a sum: where its first variable is above that of row `j`, the two change places.
-fn summed_rows(
-    numbers: &mut [u32],
-    words: &mut [u64],
-    n: usize,
-    m: usize,
-    i: usize,
-    j: usize,
-) -> Met
-    requires { ⌜ Held n m (now numbers) (now words) × (i < j) × (j < m) × (getD (now numbers) (m * n + n + j) 0 ≢ 0) ⌝ }
-    ensures { λ r. ⌜ MeetsRows summedWith n m i j (now (numbers .entry)) (now (words .entry)) (now (numbers .exit)) (now (words .exit)) r ⌝ }
-{
-    if numbers[m * n + n + i] == 0 {
-        if words[i] != 0 {
-            return Met::Clash;
-        }
-        return Met::Identity;
-    }
-    let u = numbers[i * n];
-    let v = numbers[j * n];
-    if v < u {
-        rows::swap_rows(numbers, words, n, m, i, j);
-        return Met::Both;
-    }
-    Met::Both
-}
-
-// Row `i` meets the later row `j`, which has no variables or begins as row `i` does.
+// Row `i` meets the later row `j`, which has no variables or begins as row `i` does. A sum that has variables begins above row `j`, and is left to meet it.
 fn meet_rows(numbers: &mut [u32], words: &mut [u64], n: usize, m: usize, i: usize, j: usize) -> Met
     requires { ⌜ Held n m (now numbers) (now words) × (i < j) × (j < m) × (n ≤ maxVariables) × Alike n m i j (now numbers) ⌝ }
     ensures { λ r. ⌜ MeetsRows meeting n m i j (now (numbers .entry)) (now (words .entry)) (now (numbers .exit)) (now (words .exit)) r ⌝ }
@@ -62,7 +37,13 @@ fn meet_rows(numbers: &mut [u32], words: &mut [u64], n: usize, m: usize, i: usiz
         return Met::Both;
     }
     rows::add_rows(numbers, words, n, m, i, j);
-    summed_rows(numbers, words, n, m, i, j)
+    if numbers[m * n + n + i] == 0 {
+        if words[i] != 0 {
+            return Met::Clash;
+        }
+        return Met::Identity;
+    }
+    Met::Summed
 }
 
 // Row `i` meets the rows from row `j` on as far as their first variables decide: one that begins above row `i` stays, one that begins below changes
@@ -82,24 +63,19 @@ fn pass_rows(
     let lens = m * n + n;
     let mut u = numbers[i * n];
     let mut k = j;
-    let mut q = j * n;
     while k < d {
-        let v = numbers[q];
-        if u < v {
-            k += 1;
-            q += n;
-            continue;
+        let v = numbers[k * n];
+        if v <= u {
+            if v == u {
+                return k;
+            }
+            if numbers[lens + k] == 0 {
+                return k;
+            }
+            rows::swap_rows(numbers, words, n, m, i, k);
+            u = v;
         }
-        if v == u {
-            return k;
-        }
-        if numbers[lens + k] == 0 {
-            return k;
-        }
-        rows::swap_rows(numbers, words, n, m, i, k);
-        u = v;
         k += 1;
-        q += n;
     }
     k
 }
@@ -128,6 +104,7 @@ pub fn outer_row(
             Met::Clash => return Reduction::Unsolvable,
             Met::Identity => return Reduction::Reduced,
             Met::Both => j = pass_rows(numbers, words, n, m, d, i, j + 1),
+            Met::Summed => j = pass_rows(numbers, words, n, m, d, i, j),
         }
     }
     Reduction::Reduced

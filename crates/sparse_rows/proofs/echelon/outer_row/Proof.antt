@@ -4,7 +4,7 @@ use Prim.Native.Nat.{ℕ, _-_}
 use lib.ListN.{length}
 use Rattle.rows.proofs.Holding.{held}
 use Rattle.sparse_rows.specs.Reduce.{Passes}
-use Rattle.sparse_rows.proofs.Rounds.{stands-turn, stands-filled, passes-none, passes-turn, round-wrong, round-blank, round-begin, round-passed, round-clash, round-identity, round-end}
+use Rattle.sparse_rows.proofs.Rounds.{stands-turn, stands-again, stands-filled, passes-none, passes-turn, again-onward, passes-again, round-wrong, round-blank, round-begin, round-passed, round-clash, round-identity, round-end}
 use borrow.Author.Needs.{needs}
 use native.Mathlib.Omega.{arith}
 use Rattle.sparse_rows.proofs.echelon.outer_row.Statement.{statement}
@@ -48,6 +48,10 @@ outer-row-spec =
     (λ c κs. let t = stands-turn (c .before .before .before .before .before .before .before .before .before .before .before .before .loop .inv .0 .stands) (c .before .before .before .before .before .before .before .before .before .before .before .loop-test .taken) (c .before .before .before .before .before .before .before .before .meet-rows .ensures) (c .before .before .enum-told3 .given .1) in (held (t .drawn), t .i-below, t .j-in, t .d-in, stands-filled t))  -- pass-rows-requires-2
     (λ c. let f = c .before .before .before .before .pass-rows2 .ensures .from in search needs)  -- loop-less
     (λ c. (passes-turn (c .before .before .before .before .before .before .before .before .before .before .before .before .before .before .before .before .before .loop .inv .0) (c .before .before .before .before .before .before .before .before .before .before .before .before .before .before .before .before .loop-test .taken) (c .before .before .before .before .before .before .before .before .before .before .before .before .before .meet-rows .ensures) (c .before .before .before .before .before .before .before .enum-told3 .given .1) (c .before .before .before .before .pass-rows2 .ensures), search needs, search needs))  -- loop-again
+    (λ c. search needs)  -- enum-told-4
+    (λ c κs. let t = stands-again (c .before .before .before .before .before .before .before .before .before .before .before .before .loop .inv .0 .stands) (c .before .before .before .before .before .before .before .before .before .before .before .loop-test .taken) (c .before .before .before .before .before .before .before .before .meet-rows .ensures) (c .before .before .enum-told4 .given .1) in (held (t .drawn), t .i-below, t .j-in, t .d-in, stands-filled t))  -- pass-rows-requires-3
+    (λ c. let f = again-onward (c .before .before .before .before .before .before .before .before .before .before .before .before .before .before .before .before .before .loop .inv .0) (c .before .before .before .before .before .before .before .before .before .before .before .before .before .before .before .before .loop-test .taken) (c .before .before .before .before .before .before .before .before .before .before .before .before .before .meet-rows .ensures) (c .before .before .before .before .before .before .before .enum-told4 .given .1) (c .before .before .before .before .pass-rows3 .ensures) in search needs)  -- loop-less-2
+    (λ c. (passes-again (c .before .before .before .before .before .before .before .before .before .before .before .before .before .before .before .before .before .loop .inv .0) (c .before .before .before .before .before .before .before .before .before .before .before .before .before .before .before .before .loop-test .taken) (c .before .before .before .before .before .before .before .before .before .before .before .before .before .meet-rows .ensures) (c .before .before .before .before .before .before .before .enum-told4 .given .1) (c .before .before .before .before .pass-rows3 .ensures), search needs, search needs))  -- loop-again-2
     (λ c. search needs)  -- same-length-5
     (λ c. search needs)  -- same-length-6
     (λ c. let s = c .before .before .before .before .before .before .before .before .before .before .before .before .before in let r = round-passed (round-passed (round-begin (s .pre .0) (s .pre .1) (s .pre .2) (c .before .before .before .before .before .before .before .before .before .if1 .left)) (c .before .before .before .before .before .before .pass-rows .ensures)) (c .before .loop .inv .0) in round-end r (c .loop-test .left)))
