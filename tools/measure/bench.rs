@@ -69,6 +69,28 @@ fn solver(only: &str, n: usize, room: (usize, usize), rust: impl FnOnce() -> boo
     zeroing(only, refused.numbers.cells(), refused.words.cells());
 }
 
+/// The phases of the sum of two lists of m variables below n: an output one number short is refused once both lists were tried.
+fn sum(only: &str, n: usize, m: usize, seed: u64) {
+    let mut r = Random(seed);
+    let (left, right) = (rising(&mut r, n, m), rising(&mut r, n, m));
+    let (mut rust, other) = (original::make_equation(&(left.clone(), 6)), original::make_equation(&(right.clone(), 5)));
+    let (mut out, mut short) = (Lent::new(&vec![7; 2 * m]), Lent::new(&vec![7; 2 * m - 1]));
+    phase(only, "rust", || rust.add(&other));
+    phase(only, "here", || assert!(black_box(calls::sum(&left, &right, 6, 5, &mut out).0.0) == 0));
+    phase(only, "rules", || assert!(black_box(calls::sum(&left, &right, 6, 5, &mut short).0.0) == 5));
+    zeroing::<u32, u32>(only, out.cells(), &[]);
+    black_box(rust);
+}
+
+/// m different numbers below n, in rising order.
+fn rising(r: &mut Random, n: usize, m: usize) -> Vec<u32> {
+    let mut drawn = std::collections::BTreeSet::new();
+    while drawn.len() < m {
+        drawn.insert(r.below(n) as u32);
+    }
+    drawn.into_iter().collect()
+}
+
 fn peeler(only: &str, high: bool, n: usize, edges: &[Edge]) {
     let room = rules::peel_room(high, n, edges.len());
     let lent = |cells: usize| LentPeelAreas { solution: Lent::new(&vec![7; cells]), numbers: Lent::new(&vec![7; room.0]), bytes: Lent::new(&vec![7; room.1]) };
@@ -88,6 +110,9 @@ fn peeler(only: &str, high: bool, n: usize, edges: &[Edge]) {
 }
 
 pub fn run(engine: &str, n: usize, m: usize, seed: u64, only: &str) {
+    if engine == "sum" {
+        return sum(only, n, m, seed);
+    }
     let edges = planted_edges(n, m, seed);
     let eqs: Vec<Eq> = edges.iter().map(|e| { let mut v = e.vertices.to_vec(); v.sort(); (v, e.value) }).collect();
     let (s, w) = (system(n, &eqs), n.div_ceil(64));

@@ -6,7 +6,7 @@ use native.Mathlib.Nat.{add-zero, zero-add, zero-sub, suc-sub-suc, sub-zero, add
 use native.Mathlib.Numerals.{add-one}
 use native.Mathlib.Omega.{arith}
 use lib.ListN.{length, take, drop, getD, set, replicate, length-append, length-drop, length-replicate, replicate-append-replicate, take-append-drop, drop-of-length-le, List·getD-append}
-use lib.Seq.{length-take-le, take-all, take-length, take-nil, take-suc, drop-cons, take-append-seam, take-append-le, drop-append-le, take-append-add, drop-append-add, set-split, getD-take, getD-drop, take-take, drop-drop, take-add, take-set-le, take-at, drop-at}
+use lib.Seq.{length-take-le, take-all, take-length, take-nil, take-suc, drop-cons, take-append-seam, take-append-le, drop-append-le, take-append-add, drop-append-add, set-split, getD-take, getD-drop, take-take, drop-drop, take-add, take-at, drop-at}
 use Rattle.areas.specs.Stretch.{stretch, put, cleared}
 
 drop-take : (c b : ℕ) (l : List ℕ) → drop c (take b l) ≡ take (b - c) (drop c l)
@@ -216,13 +216,6 @@ put-stretch b n l h =
     shown : stretch b n l ≡ take n (drop b l)
     shown = stretch-is b n l
 
--- areas that differ in one stretch alone
-pub put-agree : (b n : ℕ) (l l′ : List ℕ) → take b l ≡ take b l′ → drop (b + n) l ≡ drop (b + n) l′ → b + n ≤ length l → l ≡ put b (stretch b n l) l′
-put-agree b n l l′ e e′ h =
-    sym (put-stretch b n l h)
-    ∙ whole b (stretch b n l) l
-    ∙ rw (e, length-stretch b n l h, e′) (sym (whole b (stretch b n l) l′ ∙ rw (length-stretch b n l h)))
-
 -- over what was written
 pub put-put-over : (b c : ℕ) (s t l : List ℕ) → b ≤ c → c + length t ≤ b + length s → c ≤ length l → put b s (put c t l) ≡ put b s l
 put-put-over b c s t l h g f =
@@ -279,10 +272,6 @@ put-set b i v s l h g =
     ap (λ (x : List ℕ). put b s x) (set-is-put i v l g)
     ∙ put-comm b i s (v ∷ []) l h (omega arith)
     ∙ sym (set-is-put i v (put b s l) (omega arith))
-
--- a stretch that ends before an element
-pub stretch-set-before : (c k i v : ℕ) (l : List ℕ) → c + k ≤ i → stretch c k (set l i v) ≡ stretch c k l
-stretch-set-before c k i v l h = stretch-agree c k i (set l i v) l (take-set-le i l i v (omega arith)) h
 
 -- ---- an element
 

@@ -1,38 +1,22 @@
 -- What is left once the sum stands in one piece: zeros behind it.
-use mathlib.Core.Path.{_≡_, sym, ap, ap₂, _∙_}
-use mathlib.Core.List.{List, _++_}
-use Prim.Native.Nat.{ℕ, _+_, _-_, _≤_, min}
+use mathlib.Core.Path.{_≡_}
+use mathlib.Core.List.{List}
+use Prim.Native.Nat.{ℕ, _+_, _-_, _≤_}
 use native.Mathlib.Nat.{zero-add}
 use native.Mathlib.Omega.{arith}
-use lib.ListN.{length, drop, replicate, length-append, length-replicate}
-use Rattle.gf2.specs.Equation.{symDiff}
-use Rattle.areas.specs.Stretch.{stretch, put, zeroed}
+use lib.ListN.{length, replicate}
+use Rattle.areas.specs.Stretch.{put, zeroed}
 use Rattle.areas.specs.Rows.{padded}
-use Rattle.areas.proofs.Stretch.{length-stretch, drop-agree, put-then, put-put-over, put-stretch, put-agree}
-use Rattle.equation.specs.Merging.{Gathered}
+use Rattle.areas.proofs.Stretch.{put-then}
 
--- zeros behind a list
-pub padded-is : (n k : ℕ) (vs : List ℕ) → k ≡ n - length vs → vs ++ replicate k 0 ≡ padded n vs
+-- zeros behind a list that was written: it stands there padded
+pub zeroed-behind : (b n : ℕ) (vs area : List ℕ) → b + length vs ≤ length area → zeroed (b + length vs) (b + n) (put b vs area) ≡ put b (padded n vs) area
 unfolding padded
-padded-is n k vs e = rw e
+zeroed-behind b n vs area h =
+    let k : b + n - (b + length vs) ≡ n - length vs = omega arith in
+    rw k (put-then b vs (replicate (n - length vs) 0) area h)
 
--- the sum at the front of `out`: zeros up to the two lengths together
-pub settle-front : (l r before out : List ℕ) (m len : ℕ) → Gathered l r before out 0 m len → m ≤ length before
-    → zeroed len m out ≡ put 0 (padded m (symDiff l r)) before
-settle-front l r before out m len g h =
-    let long = g .long in
-    let room = g .in-room in
-    let size = g .size in
-    let agree : drop (0 + m) out ≡ drop (0 + m) before = drop-agree (0 + min (len + 1) m) (0 + m) out before (omega arith) (g .kept) in
-    let zeros : length (replicate {A = ℕ} (m - len) 0) ≡ m - len = length-replicate (m - len) 0 in
-    let first : length (stretch 0 len out) ≡ len = length-stretch 0 len out (omega arith) in
-    let all : length (stretch 0 m out) ≡ m = length-stretch 0 m out (omega arith) in
-    let wrote : length (stretch 0 len out ++ replicate (m - len) 0) ≡ m = length-append (stretch 0 len out) (replicate (m - len) 0) ∙ omega arith in
-    -- the whole front is written anew
-    ap₂ (λ (k : ℕ) (x : List ℕ). put k (replicate (m - len) 0) x) (sym first) (sym (put-stretch 0 len out (omega arith)))
-    ∙ ap (λ (k : ℕ). put k (replicate (m - len) 0) (put 0 (stretch 0 len out) out)) (sym (zero-add (length (stretch 0 len out))))
-    ∙ put-then 0 (stretch 0 len out) (replicate (m - len) 0) out (omega arith)
-    ∙ ap (λ (x : List ℕ). put 0 (stretch 0 len out ++ replicate (m - len) 0) x) (put-agree 0 m out before (g .front) agree (omega arith))
-    ∙ put-put-over 0 0 (stretch 0 len out ++ replicate (m - len) 0) (stretch 0 m out) before (omega arith) (omega arith) (omega arith)
-    ∙ ap (λ (x : List ℕ). put 0 (x ++ replicate (m - len) 0) before) (g .summed)
-    ∙ ap (λ (x : List ℕ). put 0 x before) (padded-is m (m - len) (symDiff l r) (omega arith))
+-- the same of a list at the front, from the equations of the calls
+pub settle-front : (vs before : List ℕ) (n : ℕ) {o₁ o₂ : List ℕ} {len : ℕ} → length vs ≤ length before → len ≡ length vs → o₁ ≡ put 0 vs before → o₂ ≡ zeroed len n o₁
+    → o₂ ≡ put 0 (padded n vs) before
+settle-front vs before n room size e₁ e₂ = rw (e₂, e₁, size) (rw (zero-add (length vs), zero-add n) at (zeroed-behind 0 n vs before (omega arith)))

@@ -1,148 +1,83 @@
 -- A turn of the merge: by the order of the two variables, one of them is written, or neither is kept.
-use mathlib.Core.Path.{_≡_, refl, _∙_}
-use mathlib.Core.Bool.{Bool, true, false, not, Bool·beq, cond}
+use mathlib.Core.Path.{_≡_, refl, sym, ap, _∙_}
 use mathlib.Core.List.{List, _∷_, _++_, append-nil}
-use Prim.Native.Nat.{ℕ, _+_, _<_, _≤_}
-use native.Mathlib.Nat.{add-zero, zero-add}
+use Prim.Native.Nat.{ℕ, suc, _+_, _<_, _≤_}
+use native.Mathlib.Numerals.{add-one}
 use native.Mathlib.Omega.{arith}
-use lib.ListN.{length, take, drop, getD, set, length-set, drop-of-length-le}
-use lib.Seq.{append-snoc, take-set-le, drop-set-lt, getD-set-same}
-use lib.Dec.{leb}
-use mir.Val.{boolByte}
-use borrow.Author.Tests.{le-leb, lt-leb}
+use lib.ListN.{length, drop, getD, set, length-append, length-drop, drop-of-length-le}
+use lib.Seq.{drop-cons}
 use Rattle.gf2.specs.Equation.{symDiff}
-use Rattle.gf2.proofs.Tests.{Tri, tri, less, same, more}
 use Rattle.gf2.proofs.SymDiff.{turn-less, turn-same, turn-more, left-ended, right-ended}
-use Rattle.areas.specs.Stretch.{stretch}
-use Rattle.areas.proofs.Stretch.{stretch-none, stretch-snoc, stretch-set-before, drop-agree}
-use Rattle.equation.specs.Merging.{Merged}
+use Rattle.areas.proofs.Copying.{Copying, copying-begin, copying-turn}
+use Rattle.equation.specs.Merging.{Ended}
 
--- a flag as a number
-pub flag-low : (b : Bool) → boolByte b ≤ 1
-flag-low true = omega arith
-flag-low false = omega arith
+-- i of l and j of r are done: the first d variables of the sum stand in `out` from s on, and the sum of what is left is still to come
+pub record Merged (l r before out : List ℕ) (s i j d : ℕ) : Type 0 where
+  pub in-left : i ≤ length l
+  pub in-right : j ≤ length r
+  pub written : Copying (symDiff l r) before s d out
+  pub to-come : drop d (symDiff l r) ≡ symDiff (drop i l) (drop j r)
 
--- of two numbers one is at most the other
-pub flags : (a b : ℕ) → 1 ≤ boolByte (leb a b) + boolByte (leb b a)
-flags a b = go (tri a b)
-  where
-    go : Tri a b → 1 ≤ boolByte (leb a b) + boolByte (leb b a)
-    go (less h) = rw (le-leb a b (omega arith)) (omega arith)
-    go (same h) = rw (le-leb a b (omega arith)) (omega arith)
-    go (more h) = rw (le-leb b a (omega arith)) (omega arith)
+pub merged-begin : (l r before : List ℕ) (s : ℕ) → s + length (symDiff l r) ≤ length before → Merged l r before before s 0 0 0
+merged-begin l r before s room = record { in-left = omega arith; in-right = omega arith; written = copying-begin (symDiff l r) before s room; to-come = refl }
 
-pub merged-begin : (l r before : List ℕ) (s m : ℕ) → Merged l r before before s m 0 0 0
-merged-begin l r before s m = record {
-  in-left = omega arith;
-  in-right = omega arith;
-  short = omega arith;
-  long = refl;
-  front = refl;
-  back = refl;
-  kept = refl;
-  written = rw (stretch-none s before);
-}
+-- x stands at place d of the sum, and xs behind it
+record Next (sum : List ℕ) (d x : ℕ) (xs : List ℕ) : Type 0 where
+  here : d < length sum
+  value : getD sum d 0 ≡ x
+  behind : drop (d + 1) sum ≡ xs
 
-module _ (l r before out : List ℕ) (s m i j d : ℕ) (hi : i < length l) (hj : j < length r) (hd : d < m) (room : s + m ≤ length before)
-    (w : Merged l r before out s m i j d) where
-  -- what a write at place d leaves as it was
-  written-long : (v : ℕ) → length (set out (s + d) v) ≡ length before
-  written-long v = simp length-set (w .long)
+next : (sum : List ℕ) (d x : ℕ) (xs : List ℕ) → drop d sum ≡ x ∷ xs → Next sum d x xs
+next sum d x xs e =
+    let k : length (drop d sum) ≡ suc (length xs) = ap length e in
+    let h : d < length sum = omega (arith, length-drop d sum) in
+    let c : getD sum d 0 ∷ drop (suc d) sum ≡ x ∷ xs = sym (drop-cons sum d 0 h) ∙ e in
+    record { here = h; value = ap (λ (l : List ℕ). getD l 0 0) c; behind = rw (add-one d) (ap (λ (l : List ℕ). drop 1 l) c) }
 
-  written-front : (v : ℕ) → take s (set out (s + d) v) ≡ take s before
-  written-front v = take-set-le s out (s + d) v (omega arith) ∙ w .front
+module _ {l r before out : List ℕ} {s i j d : ℕ} (w : Merged l r before out s i j d) (hi : i < length l) (hj : j < length r) where
+  -- the smaller of the two variables is the next of the sum
+  next-less : getD l i 0 < getD r j 0 → Next (symDiff l r) d (getD l i 0) (symDiff (drop (i + 1) l) (drop j r))
+  next-less h = next (symDiff l r) d (getD l i 0) (symDiff (drop (i + 1) l) (drop j r)) (w .to-come ∙ turn-less l r i j hi hj h)
 
-  written-kept : (v : ℕ) → drop (s + m) (set out (s + d) v) ≡ drop (s + m) before
-  written-kept v = drop-set-lt (s + m) out (s + d) v (omega arith) ∙ w .kept
+  next-more : getD r j 0 < getD l i 0 → Next (symDiff l r) d (getD r j 0) (symDiff (drop i l) (drop (j + 1) r))
+  next-more h = next (symDiff l r) d (getD r j 0) (symDiff (drop i l) (drop (j + 1) r)) (w .to-come ∙ turn-more l r i j hi hj h)
 
-  written-back : (v e : ℕ) → d ≤ e → drop (s + e + 1) (set out (s + d) v) ≡ drop (s + e + 1) before
-  written-back v e h = drop-set-lt (s + e + 1) out (s + d) v (omega arith) ∙ drop-agree (s + d + 1) (s + e + 1) out before (omega arith) (w .back)
+  -- .. so there is room for it
+  pub less-fits : getD l i 0 < getD r j 0 → d < length (symDiff l r)
+  less-fits h = next-less h .here
 
-  -- a variable written at place d stands behind what is written
-  one-more : (v : ℕ) (xs : List ℕ) → stretch s (d + 1) (set out (s + d) v) ++ xs ≡ stretch s d out ++ (v ∷ xs)
-  one-more v xs =
-      let n = w .long in
-      let k = length-set out (s + d) v in
-      rw (stretch-snoc s d (set out (s + d) v) (omega arith), getD-set-same out (s + d) v 0 (omega arith), stretch-set-before s d (s + d) v out (omega arith))
-      (append-snoc (stretch s d out) v xs)
+  pub more-fits : getD r j 0 < getD l i 0 → d < length (symDiff l r)
+  more-fits h = next-more h .here
 
-  pub on-less : getD l i 0 < getD r j 0 → Merged l r before (set out (s + d) (getD l i 0)) s m (i + 1) j (d + 1)
-  on-less h = record {
-    in-left = omega arith;
-    in-right = omega arith;
-    short = omega arith;
-    long = written-long (getD l i 0);
-    front = written-front (getD l i 0);
-    back = written-back (getD l i 0) (d + 1) (omega arith);
-    kept = written-kept (getD l i 0);
-    written = one-more (getD l i 0) (symDiff (drop (i + 1) l) (drop j r)) ∙ rw (← (turn-less l r i j hi hj h)) (w .written);
-  }
+  pub on-less : getD l i 0 < getD r j 0 → Merged l r before (set out (s + d) (getD l i 0)) s (i + 1) j (d + 1)
+  on-less h =
+      let n = next-less h in
+      record { in-left = omega arith; in-right = w .in-right; written = rw (n .value) at (copying-turn (w .written) (n .here)); to-come = n .behind }
 
-  pub on-more : getD r j 0 < getD l i 0 → Merged l r before (set out (s + d) (getD r j 0)) s m i (j + 1) (d + 1)
-  on-more h = record {
-    in-left = omega arith;
-    in-right = omega arith;
-    short = omega arith;
-    long = written-long (getD r j 0);
-    front = written-front (getD r j 0);
-    back = written-back (getD r j 0) (d + 1) (omega arith);
-    kept = written-kept (getD r j 0);
-    written = one-more (getD r j 0) (symDiff (drop i l) (drop (j + 1) r)) ∙ rw (← (turn-more l r i j hi hj h)) (w .written);
-  }
-
-  on-same : (v : ℕ) → getD l i 0 ≡ getD r j 0 → Merged l r before (set out (s + d) v) s m (i + 1) (j + 1) d
-  on-same v h = record {
-    in-left = omega arith;
-    in-right = omega arith;
-    short = omega arith;
-    long = written-long v;
-    front = written-front v;
-    back = written-back v d (omega arith);
-    kept = written-kept v;
-    written = rw (stretch-set-before s d (s + d) v out (omega arith), ← (turn-same l r i j hi hj h)) (w .written);
-  }
+  pub on-more : getD r j 0 < getD l i 0 → Merged l r before (set out (s + d) (getD r j 0)) s i (j + 1) (d + 1)
+  on-more h =
+      let n = next-more h in
+      record { in-left = w .in-left; in-right = omega arith; written = rw (n .value) at (copying-turn (w .written) (n .here)); to-come = n .behind }
 
   -- neither is kept, and nothing is written
-  pub on-both : getD l i 0 ≡ getD r j 0 → Merged l r before out s m (i + 1) (j + 1) d
-  on-both h = record {
-    in-left = omega arith;
-    in-right = omega arith;
-    short = omega (arith, w .short);
-    long = w .long;
-    front = w .front;
-    back = w .back;
-    kept = w .kept;
-    written = rw (← (turn-same l r i j hi hj h)) (w .written);
-  }
-
-  pub turn : Merged l r before (set out (s + d) (cond (leb (getD l i 0) (getD r j 0)) (getD l i 0) (getD r j 0))) s m
-      (i + boolByte (leb (getD l i 0) (getD r j 0)))
-      (j + boolByte (leb (getD r j 0) (getD l i 0)))
-      (d + boolByte (not (Bool·beq (leb (getD l i 0) (getD r j 0)) (leb (getD r j 0) (getD l i 0)))))
-  turn = go (tri (getD l i 0) (getD r j 0))
-    where
-      go : Tri (getD l i 0) (getD r j 0)
-          → Merged l r before (set out (s + d) (cond (leb (getD l i 0) (getD r j 0)) (getD l i 0) (getD r j 0))) s m
-          (i + boolByte (leb (getD l i 0) (getD r j 0)))
-          (j + boolByte (leb (getD r j 0) (getD l i 0)))
-          (d + boolByte (not (Bool·beq (leb (getD l i 0) (getD r j 0)) (leb (getD r j 0) (getD l i 0)))))
-      go (less h) = simp (le-leb (getD l i 0) (getD r j 0) (omega arith), lt-leb (getD r j 0) (getD l i 0) h, add-zero) (on-less h)
-      go (more h) = simp (le-leb (getD r j 0) (getD l i 0) (omega arith), lt-leb (getD l i 0) (getD r j 0) h, add-zero) (on-more h)
-      go (same e) = simp (le-leb (getD r j 0) (getD l i 0) (omega arith), le-leb (getD l i 0) (getD r j 0) (omega arith), add-zero) (on-same (getD l i 0) e)
+  pub on-both : getD l i 0 ≡ getD r j 0 → Merged l r before out s (i + 1) (j + 1) d
+  on-both h = record { in-left = omega arith; in-right = omega arith; written = w .written; to-come = w .to-come ∙ turn-same l r i j hi hj h }
 
 -- where one list has ended, what is left of the other is the rest of the sum
-pub left-done : {l r before out : List ℕ} {s m i j d : ℕ} → Merged l r before out s m i j d → length l ≤ i
-    → stretch s d out ++ (drop i l ++ drop j r) ≡ symDiff l r
-left-done {l} {r} {i = i} {j} w h = rw (drop-of-length-le l h) (rw (left-ended l (drop j r) i h) at (w .written))
+module _ {l r before out : List ℕ} {s i j d : ℕ} (w : Merged l r before out s i j d) where
+  ended : drop i l ++ drop j r ≡ drop d (symDiff l r) → Ended l r i j d
+  ended e =
+      let k : length (drop i l ++ drop j r) ≡ length (drop d (symDiff l r)) = ap length e in
+      let within = w .written .within in
+      record {
+        in-left = w .in-left;
+        in-right = w .in-right;
+        size = omega (arith, length-append (drop i l) (drop j r), length-drop i l, length-drop j r, length-drop d (symDiff l r));
+        rest = e;
+      }
 
-pub right-done : {l r before out : List ℕ} {s m i j d : ℕ} → Merged l r before out s m i j d → length r ≤ j
-    → stretch s d out ++ (drop i l ++ drop j r) ≡ symDiff l r
-right-done {l} {r} {i = i} {j} w h = rw (drop-of-length-le r h, append-nil) (rw (right-ended (drop i l) r j h) at (w .written))
+  pub left-done : length l ≤ i → Ended l r i j d
+  left-done h = ended (rw (drop-of-length-le l h) (sym (w .to-come ∙ left-ended l (drop j r) i h)))
 
--- the same for an output that begins with the sum
-pub turn-front : (l r before out : List ℕ) (m i j d : ℕ) → i < length l → j < length r → d < m → m ≤ length before → Merged l r before out 0 m i j d
-    → Merged l r before (set out d (cond (leb (getD l i 0) (getD r j 0)) (getD l i 0) (getD r j 0))) 0 m
-    (i + boolByte (leb (getD l i 0) (getD r j 0)))
-    (j + boolByte (leb (getD r j 0) (getD l i 0)))
-    (d + boolByte (not (Bool·beq (leb (getD l i 0) (getD r j 0)) (leb (getD r j 0) (getD l i 0)))))
-turn-front l r before out m i j d hi hj hd room w = rw (zero-add d) at (turn l r before out 0 m i j d hi hj hd (omega arith) w)
+  pub right-done : length r ≤ j → Ended l r i j d
+  right-done h = ended (rw (drop-of-length-le r h, append-nil) (sym (w .to-come ∙ right-ended (drop i l) r j h)))

@@ -1,27 +1,13 @@
--- Where a merge of two increasing lists stands, and what it comes to.
+-- The end of a merge of two increasing lists.
 use mathlib.Core.Path.{_≡_}
 use mathlib.Core.List.{List, _++_}
-use Prim.Native.Nat.{ℕ, _+_, _≤_, min}
-use lib.ListN.{length, take, drop}
+use Prim.Native.Nat.{ℕ, _+_, _-_, _≤_}
+use lib.ListN.{length, drop}
 use Rattle.gf2.specs.Equation.{symDiff}
-use Rattle.areas.specs.Stretch.{stretch}
 
--- i of l and j of r are done, and d variables of the sum stand in `out` from s on, where there is room for m
-pub record Merged (l r before out : List ℕ) (s m i j d : ℕ) : Type 0 where
+-- i of l, j of r and d variables of the sum are done, and one of the lists has ended: what is left of the lists is what is left of the sum
+pub record Ended (l r : List ℕ) (i j d : ℕ) : Type 0 where
   pub in-left : i ≤ length l
   pub in-right : j ≤ length r
-  pub short : d ≤ i + j
-  pub long : length out ≡ length before
-  pub front : take s out ≡ take s before
-  pub back : drop (s + d + 1) out ≡ drop (s + d + 1) before
-  pub kept : drop (s + m) out ≡ drop (s + m) before
-  pub written : stretch s d out ++ symDiff (drop i l) (drop j r) ≡ symDiff l r
-
--- the sum of l and r stands in `out` from s on, and it is `len` variables long; one cell past it may have been written too
-pub record Gathered (l r before out : List ℕ) (s m len : ℕ) : Type 0 where
-  pub size : len ≡ length (symDiff l r)
-  pub in-room : len ≤ m
-  pub long : length out ≡ length before
-  pub front : take s out ≡ take s before
-  pub kept : drop (s + min (len + 1) m) out ≡ drop (s + min (len + 1) m) before
-  pub summed : stretch s len out ≡ symDiff l r
+  pub size : d + (length l - i) + (length r - j) ≡ length (symDiff l r)
+  pub rest : drop i l ++ drop j r ≡ drop d (symDiff l r)

@@ -1,151 +1,104 @@
--- The merge of two rows into the scratch row: place d is at or below every variable still to come, so n cells suffice.
-use mathlib.Core.Path.{_≡_, sym, _∙_}
+-- The merge of two rows into the scratch row: the sum rises below n, so n cells suffice.
+use mathlib.Core.Path.{_≡_, sym, ap, _∙_}
 use mathlib.Core.List.{List}
-use Prim.Native.Nat.{ℕ, suc, _+_, _-_, _<_, _≤_}
-use native.Mathlib.Numerals.{add-one}
+use Prim.Native.Nat.{ℕ, _+_, _-_, _<_, _≤_}
 use native.Mathlib.Omega.{arith}
-use lib.ListN.{length, drop, getD, set, length-drop}
-use lib.Seq.{drop-cons}
-use Rattle.gf2.specs.Equation.{Rising}
-use Rattle.gf2.proofs.SymDiff.{rising-from, rising-length}
+use lib.ListN.{length, take, getD, set}
+use Rattle.gf2.proofs.SymDiff.{rising-symDiff, rising-length}
 use Rattle.areas.specs.Stretch.{stretch}
-use Rattle.areas.proofs.Stretch.{length-stretch, getD-stretch, getD-agree}
-use Rattle.equation.specs.Merging.{Merged}
-use Rattle.equation.proofs.Turn.{merged-begin, on-less, on-more, on-both, left-done, right-done}
+use Rattle.areas.proofs.Stretch.{length-stretch, getD-stretch, getD-put-before}
+use Rattle.equation.specs.Merging.{Ended}
+use Rattle.equation.proofs.Turn.{Merged, merged-begin, less-fits, more-fits, on-less, on-more, on-both, left-done, right-done}
 use Rattle.row_sums.specs.AddFits.{AddFits}
-use Rattle.row_sums.specs.Ended.{Ended}
+use Rattle.row_sums.specs.RowSum.{rowSum}
 
--- the variable at place i of a list that rises from there on
-rising-at : (b n i : ℕ) (vs : List ℕ) → i < length vs → Rising b n (drop i vs) → (b ≤ getD vs i 0) × (getD vs i 0 < n) × Rising (suc (getD vs i 0)) n (drop (i + 1) vs)
-rising-at b n i vs h r = rw (add-one i) (rw (drop-cons vs i 0 h) at r)
+-- the lengths of two rows that can be added, and of their sum
+pub record Sizes (area : List ℕ) (n p li q lj : ℕ) : Type 0 where
+  pub left-long : length (stretch p li area) ≡ li
+  pub right-long : length (stretch q lj area) ≡ lj
+  pub sum-short : length (rowSum area p li q lj) ≤ n
 
--- .. rises from any place up to that variable
-rising-here : (b b′ n i : ℕ) (vs : List ℕ) → i < length vs → b′ ≤ getD vs i 0 → Rising b n (drop i vs) → Rising b′ n (drop i vs)
-rising-here b b′ n i vs h k r = rw (drop-cons vs i 0 h) (let a = rw (drop-cons vs i 0 h) at r in (k, a .1, a .2))
+pub sizes : {area : List ℕ} {n p li q lj s : ℕ} → AddFits area n p li q lj s → Sizes area n p li q lj
+sizes {area} {n} {p} {li} {q} {lj} f =
+    let k = rising-length 0 n (rowSum area p li q lj) (omega arith) (rising-symDiff 0 n (stretch p li area) (stretch q lj area) (f .left-rises) (f .right-rises)) in
+    record { left-long = length-stretch p li area (omega arith); right-long = length-stretch q lj area (omega arith); sum-short = omega arith }
 
--- what is still to come, and the place d
-pub record Rests (l r : List ℕ) (n i j d : ℕ) : Type 0 where
-  pub left : Rising d n (drop i l)
-  pub right : Rising d n (drop j r)
-
-module _ (l r : List ℕ) (n i j d : ℕ) (hi : i < length l) (hj : j < length r) (w : Rests l r n i j d) where
-  pub rests-low : d < n
-  rests-low = let a = rising-at d n i l hi (w .left) in omega arith
-
-  rests-less : getD l i 0 < getD r j 0 → Rests l r n (i + 1) j (d + 1)
-  rests-less h =
-      let a = rising-at d n i l hi (w .left) in
-      record { left = rising-from (suc (getD l i 0)) (d + 1) n (drop (i + 1) l) (omega arith) (a .2); right = rising-here d (d + 1) n j r hj (omega arith) (w .right) }
-
-  rests-more : getD r j 0 < getD l i 0 → Rests l r n i (j + 1) (d + 1)
-  rests-more h =
-      let b = rising-at d n j r hj (w .right) in
-      record { left = rising-here d (d + 1) n i l hi (omega arith) (w .left); right = rising-from (suc (getD r j 0)) (d + 1) n (drop (j + 1) r) (omega arith) (b .2) }
-
-  rests-same : Rests l r n (i + 1) (j + 1) d
-  rests-same =
-      let a = rising-at d n i l hi (w .left) in
-      let b = rising-at d n j r hj (w .right) in
-      record { left = rising-from (suc (getD l i 0)) d n (drop (i + 1) l) (omega arith) (a .2); right = rising-from (suc (getD r j 0)) d n (drop (j + 1) r) (omega arith) (b .2) }
-
--- i numbers of the row at p and j of the row at q are done, and d variables stand in the scratch row
+-- i numbers of the row at p and j of the row at q are done, and d variables of the sum stand in the scratch row
 pub record MergingIn (area₀ : List ℕ) (n p li q lj s : ℕ) (area : List ℕ) (i j d : ℕ) : Type 0 where
   pub fits : AddFits area₀ n p li q lj s
-  pub left-long : length (stretch p li area₀) ≡ li
-  pub right-long : length (stretch q lj area₀) ≡ lj
-  pub merged : Merged (stretch p li area₀) (stretch q lj area₀) area₀ area s n i j d
-  pub rests : Rests (stretch p li area₀) (stretch q lj area₀) n i j d
-  pub in-room : d ≤ n
+  pub lengths : Sizes area₀ n p li q lj
+  pub merged : Merged (stretch p li area₀) (stretch q lj area₀) area₀ area s i j d
 
 pub merging-begin : (area : List ℕ) (n p li q lj s : ℕ) → AddFits area n p li q lj s → MergingIn area n p li q lj s area 0 0 0
 merging-begin area n p li q lj s f =
-    record {
-      fits = f;
-      left-long = length-stretch p li area (omega arith);
-      right-long = length-stretch q lj area (omega arith);
-      merged = merged-begin (stretch p li area) (stretch q lj area) area s n;
-      rests = record { left = f .left-rises; right = f .right-rises };
-      in-room = omega arith;
-    }
+    let z = sizes f in
+    record { fits = f; lengths = z; merged = merged-begin (stretch p li area) (stretch q lj area) area s (omega arith) }
 
 module _ {area₀ area : List ℕ} {n p li q lj s i j d : ℕ} (m : MergingIn area₀ n p li q lj s area i j d) (hi : i < li) (hj : j < lj) where
-  pub merging-low : d < n
-  merging-low = rests-low (stretch p li area₀) (stretch q lj area₀) n i j d (omega arith) (omega arith) (m .rests)
-
-  -- what is read is as it was
-  read-left : getD area (p + i) 0 ≡ getD (stretch p li area₀) i 0
-  read-left = let f = m .fits in getD-agree (p + i) 0 s area area₀ (m .merged .front) (omega arith) ∙ sym (getD-stretch p li i 0 area₀ hi)
-
-  read-right : getD area (q + j) 0 ≡ getD (stretch q lj area₀) j 0
-  read-right = let f = m .fits in getD-agree (q + j) 0 s area area₀ (m .merged .front) (omega arith) ∙ sym (getD-stretch q lj j 0 area₀ hj)
-
   hi′ : i < length (stretch p li area₀)
-  hi′ = omega (arith, m .left-long)
+  hi′ = omega (arith, m .lengths .left-long)
 
   hj′ : j < length (stretch q lj area₀)
-  hj′ = omega (arith, m .right-long)
+  hj′ = omega (arith, m .lengths .right-long)
+
+  -- what is read is as it was
+  as-it-was : (k : ℕ) → k < s → getD area k 0 ≡ getD area₀ k 0
+  as-it-was k h =
+      let f = m .fits in
+      ap (λ (l : List ℕ). getD l k 0) (m .merged .written .so-far)
+      ∙ getD-put-before s k 0 (take d (rowSum area₀ p li q lj)) area₀ h (omega arith)
+
+  read-left : getD area (p + i) 0 ≡ getD (stretch p li area₀) i 0
+  read-left = let f = m .fits in as-it-was (p + i) (omega arith) ∙ sym (getD-stretch p li i 0 area₀ hi)
+
+  read-right : getD area (q + j) 0 ≡ getD (stretch q lj area₀) j 0
+  read-right = let f = m .fits in as-it-was (q + j) (omega arith) ∙ sym (getD-stretch q lj j 0 area₀ hj)
+
+  -- the order of the two variables that are read is their order in the rows
+  in-less : getD area (p + i) 0 < getD area (q + j) 0 → getD (stretch p li area₀) i 0 < getD (stretch q lj area₀) j 0
+  in-less h = omega (arith, read-left, read-right)
+
+  in-more : getD area (q + j) 0 < getD area (p + i) 0 → getD (stretch q lj area₀) j 0 < getD (stretch p li area₀) i 0
+  in-more h = omega (arith, read-left, read-right)
+
+  -- there is room for the smaller one
+  pub less-low : getD area (p + i) 0 < getD area (q + j) 0 → s + d < length area
+  less-low h = omega (arith, m .fits, m .lengths, m .merged .written, less-fits (m .merged) hi′ hj′ (in-less h))
+
+  pub more-low : getD area (q + j) 0 < getD area (p + i) 0 → s + d < length area
+  more-low h = omega (arith, m .fits, m .lengths, m .merged .written, more-fits (m .merged) hi′ hj′ (in-more h))
 
   -- a turn, by the order of the two variables
   pub merging-less : getD area (p + i) 0 < getD area (q + j) 0 → MergingIn area₀ n p li q lj s (set area (s + d) (getD area (p + i) 0)) (i + 1) j (d + 1)
-  merging-less h =
-      let k : getD (stretch p li area₀) i 0 < getD (stretch q lj area₀) j 0 = omega (arith, read-left, read-right) in
-      rw read-left
-      record {
-        fits = m .fits;
-        left-long = m .left-long;
-        right-long = m .right-long;
-        merged = on-less (stretch p li area₀) (stretch q lj area₀) area₀ area s n i j d hi′ hj′ merging-low (m .fits .inside) (m .merged) k;
-        rests = rests-less (stretch p li area₀) (stretch q lj area₀) n i j d hi′ hj′ (m .rests) k;
-        in-room = omega (arith, merging-low);
-      }
+  merging-less h = rw read-left (record { fits = m .fits; lengths = m .lengths; merged = on-less (m .merged) hi′ hj′ (in-less h) })
 
   pub merging-more : getD area (q + j) 0 < getD area (p + i) 0 → MergingIn area₀ n p li q lj s (set area (s + d) (getD area (q + j) 0)) i (j + 1) (d + 1)
-  merging-more h =
-      let k : getD (stretch q lj area₀) j 0 < getD (stretch p li area₀) i 0 = omega (arith, read-left, read-right) in
-      rw read-right
-      record {
-        fits = m .fits;
-        left-long = m .left-long;
-        right-long = m .right-long;
-        merged = on-more (stretch p li area₀) (stretch q lj area₀) area₀ area s n i j d hi′ hj′ merging-low (m .fits .inside) (m .merged) k;
-        rests = rests-more (stretch p li area₀) (stretch q lj area₀) n i j d hi′ hj′ (m .rests) k;
-        in-room = omega (arith, merging-low);
-      }
+  merging-more h = rw read-right (record { fits = m .fits; lengths = m .lengths; merged = on-more (m .merged) hi′ hj′ (in-more h) })
 
   pub merging-same : getD area (q + j) 0 ≤ getD area (p + i) 0 → getD area (p + i) 0 ≤ getD area (q + j) 0 → MergingIn area₀ n p li q lj s area (i + 1) (j + 1) d
   merging-same h g =
       let k : getD (stretch p li area₀) i 0 ≡ getD (stretch q lj area₀) j 0 = omega (arith, read-left, read-right) in
-      record {
-        fits = m .fits;
-        left-long = m .left-long;
-        right-long = m .right-long;
-        merged = on-both (stretch p li area₀) (stretch q lj area₀) area₀ area s n i j d hi′ hj′ merging-low (m .fits .inside) (m .merged) k;
-        rests = rests-same (stretch p li area₀) (stretch q lj area₀) n i j d hi′ hj′ (m .rests);
-        in-room = m .in-room;
-      }
+      record { fits = m .fits; lengths = m .lengths; merged = on-both (m .merged) hi′ hj′ k }
 
--- where one row has ended, the rest of the other fits
+-- where one row has ended
 module _ {area₀ area : List ℕ} {n p li q lj s i j d : ℕ} (m : MergingIn area₀ n p li q lj s area i j d) where
-  left-fits : d + (li - i) ≤ n
-  left-fits = omega (arith, rising-length d n (drop i (stretch p li area₀)) (m .in-room) (m .rests .left), length-drop i (stretch p li area₀), m)
+  pub left-over : li ≤ i → Ended (stretch p li area₀) (stretch q lj area₀) i j d
+  left-over h = left-done (m .merged) (omega (arith, m .lengths .left-long))
 
-  right-fits : d + (lj - j) ≤ n
-  right-fits = omega (arith, rising-length d n (drop j (stretch q lj area₀)) (m .in-room) (m .rests .right), length-drop j (stretch q lj area₀), m)
+  pub right-over : lj ≤ j → Ended (stretch p li area₀) (stretch q lj area₀) i j d
+  right-over h = right-done (m .merged) (omega (arith, m .lengths .right-long))
 
-  pub left-over : li ≤ i → Ended (stretch p li area₀) (stretch q lj area₀) area s n li lj i j d
-  left-over h =
-      record {
-        in-left = omega (arith, m .merged, m .left-long);
-        in-right = omega (arith, m .merged, m .right-long);
-        fits = omega (arith, right-fits);
-        rest = left-done (m .merged) (omega (arith, m .left-long));
-      }
+-- what is left of the rows then fits behind what is written
+pub record Rests (n li lj i j d : ℕ) : Type 0 where
+  pub in-left : i ≤ li
+  pub in-right : j ≤ lj
+  pub fits : d + (li - i) + (lj - j) ≤ n
 
-  pub right-over : lj ≤ j → Ended (stretch p li area₀) (stretch q lj area₀) area s n li lj i j d
-  right-over h =
-      record {
-        in-left = omega (arith, m .merged, m .left-long);
-        in-right = omega (arith, m .merged, m .right-long);
-        fits = omega (arith, left-fits);
-        rest = right-done (m .merged) (omega (arith, m .right-long));
-      }
+pub rests : {area : List ℕ} {n p li q lj s i j d : ℕ} → AddFits area n p li q lj s → Ended (stretch p li area) (stretch q lj area) i j d → Rests n li lj i j d
+rests f e =
+    let z = sizes f in
+    record {
+      in-left = omega (arith, e .in-left, z .left-long);
+      in-right = omega (arith, e .in-right, z .right-long);
+      fits = omega (arith, e .size, z .left-long, z .right-long, z .sum-short);
+    }

@@ -1,2 +1,2 @@
+pub mod RowSum
 pub mod AddFits
-pub mod Ended

@@ -1,24 +1,24 @@
 // The sum of two rows of one area.
 ghost use mathlib.Core.Path.{_≡_};
-ghost use Prim.Native.Nat.{max, min};
-ghost use lib.ListN.{length};
-ghost use Rattle.gf2.specs.Equation.{symDiff};
+ghost use Prim.Native.Nat.{_≤_, max};
+ghost use lib.ListN.{length, take};
 ghost use Rattle.areas.specs.Stretch.{stretch, put};
 ghost use Rattle.areas.specs.Rows.{padded};
-ghost use Rattle.equation.specs.Merging.{Merged, Gathered};
+ghost use Rattle.equation.specs.Merging.{Ended};
 ghost use Rattle.row_sums.specs.AddFits.{AddFits};
-ghost use Rattle.row_sums.specs.Ended.{Ended};
+ghost use Rattle.row_sums.specs.RowSum.{rowSum};
 use equation::merge::Place;
 
-// Merges the rows at `p` and at `q` into the scratch row until one of them ends: a variable v is written at or before place v, so `n` cells suffice.
+// Merges the rows at `p` and at `q` into the scratch row until one of them ends: the sum lists variables below n, so `n` cells suffice.
 fn merge_in(area: &mut [u32], n: usize, p: usize, li: usize, q: usize, lj: usize, s: usize) -> Place
     requires { ⌜ AddFits (now area) n p li q lj s ⌝ }
-    ensures { λ r. ⌜ Merged (stretch p li (now (area .entry))) (stretch q lj (now (area .entry))) (now (area .entry)) (now (area .exit)) s n (r .left) (r .right) (r .out) ⌝ }
-    ensures { λ r. ⌜ Ended (stretch p li (now (area .entry))) (stretch q lj (now (area .entry))) (now (area .exit)) s n li lj (r .left) (r .right) (r .out) ⌝ }
+    ensures { λ r. ⌜ Ended (stretch p li (now (area .entry))) (stretch q lj (now (area .entry))) (r .left) (r .right) (r .out) ⌝ }
+    ensures { λ r. ⌜ now (area .exit) ≡ put s (take (r .out) (rowSum (now (area .entry)) p li q lj)) (now (area .entry)) ⌝ }
 {
     let mut i = 0;
     let mut j = 0;
     let mut d = 0;
+    // The three cases of `equation::merge`, left by `continue`, which compiles to less in the solvers' loops.
     while i < li && j < lj {
         let l = area[p + i];
         let r = area[q + j];
@@ -55,7 +55,9 @@ fn add_ptr_in(
     s: usize,
 ) -> usize
     requires { ⌜ AddFits (now area) n p li q lj s ⌝ }
-    ensures { λ r. ⌜ Gathered (stretch p li (now (area .entry))) (stretch q lj (now (area .entry))) (now (area .entry)) (now (area .exit)) s n r ⌝ }
+    ensures { λ r. ⌜ r ≡ length (rowSum (now (area .entry)) p li q lj) ⌝ }
+    ensures { λ r. ⌜ r ≤ n ⌝ }
+    ensures { λ _. ⌜ now (area .exit) ≡ put s (rowSum (now (area .entry)) p li q lj) (now (area .entry)) ⌝ }
 {
     let m = merge_in(area, n, p, li, q, lj, s);
     let i = m.left;
@@ -73,12 +75,6 @@ fn larger(a: usize, b: usize) -> usize
     if a < b { b } else { a }
 }
 
-fn smaller(a: usize, b: usize) -> usize
-    ensures { λ r. ⌜ r ≡ min a b ⌝ }
-{
-    if a < b { a } else { b }
-}
-
 // Adds the row at `q` into the row at `p`, and returns the length of the sum; the scratch row is zeros again.
 pub fn add_into(
     area: &mut [u32],
@@ -90,15 +86,14 @@ pub fn add_into(
     s: usize,
 ) -> usize
     requires { ⌜ AddFits (now area) n p li q lj s ⌝ }
-    ensures { λ r. ⌜ r ≡ length (symDiff (stretch p li (now (area .entry))) (stretch q lj (now (area .entry)))) ⌝ }
-    ensures { λ _. ⌜ now (area .exit) ≡ put p (padded n (symDiff (stretch p li (now (area .entry))) (stretch q lj (now (area .entry))))) (now (area .entry)) ⌝ }
+    ensures { λ r. ⌜ r ≡ length (rowSum (now (area .entry)) p li q lj) ⌝ }
+    ensures { λ _. ⌜ now (area .exit) ≡ put p (padded n (rowSum (now (area .entry)) p li q lj)) (now (area .entry)) ⌝ }
 {
     let len = add_ptr_in(area, n, p, li, q, lj, s);
     areas::copy::copy_within_numbers(area, s, len, p);
-    // No more is zeroed than the old row and the merge have written.
+    // No more is zeroed than the old row and the sum have written.
     let top = larger(li, len);
     areas::zero::zero_numbers(area, p + len, p + top);
-    let used = smaller(len + 1, n);
-    areas::zero::zero_numbers(area, s, s + used);
+    areas::zero::zero_numbers(area, s, s + len);
     len
 }

@@ -49,7 +49,7 @@ use mod2_sys::{Modulo2Equation, Modulo2System};
 pub type Eq = (Vec<u32>, u64);
 
 fn system(n: usize, eqs: &[Eq]) -> Modulo2System<u64> {
-    let e = eqs.iter().map(|(v, c)| unsafe { Modulo2Equation::from_parts(v.clone(), *c) }).collect();
+    let e = eqs.iter().map(make_equation).collect();
     unsafe { Modulo2System::from_parts(n, e) }
 }
 /// `gaussian_elimination`; None: unsolvable.
@@ -64,10 +64,11 @@ pub fn dense(rows: &mut [u64], rhs: &mut [u64], m: usize, w: usize, n: usize) ->
 }
 /// `add`; the answer is read from the equation's Debug text, its fields being private.
 pub fn sum(a: &Eq, b: &Eq) -> String {
-    let mut x = unsafe { Modulo2Equation::<u64>::from_parts(a.0.clone(), a.1) };
-    x.add(&unsafe { Modulo2Equation::from_parts(b.0.clone(), b.1) });
+    let mut x = make_equation(a);
+    x.add(&make_equation(b));
     format!("{x:?}")
 }
+pub fn make_equation(e: &Eq) -> Modulo2Equation<u64> { unsafe { Modulo2Equation::from_parts(e.0.clone(), e.1) } }
 pub use vbuilder::{Log, Ready, ready, run};
 pub fn make_system(n: usize, eqs: &[Eq]) -> Modulo2System<u64> { system(n, eqs) }
 

@@ -4,6 +4,12 @@ use borrow.Author.Tests.{le-leb, lt-leb, not-true, not-false}
 use mathlib.Core.Path.{_≡_, refl, sym, _∙_}
 use mathlib.Core.Bool.{true}
 use denote.Ref.{now}
+use mathlib.Core.List.{List}
+use Prim.Native.Nat.{ℕ, _+_, _≤_}
+use native.Mathlib.Omega.{arith}
+use lib.ListN.{length}
+use Rattle.gf2.specs.Equation.{symDiff}
+use Rattle.gf2.proofs.SymDiff.{length-symDiff-le}
 use Rattle.equation.specs.Increase.{rises}
 use Rattle.equation.specs.Sums.{sumCall}
 use Rattle.equation.proofs.Settle.{settle-front}
@@ -16,6 +22,16 @@ left-rises c = sym (c .before .increasing .ensures) ∙ not-false _ (c .if3 .lef
 
 right-rises : (c : tie.Else4) → rises (now (c .before .before .before .before .before .before .before .before .before .args .right)) ≡ true
 right-rises c = sym (c .before .increasing2 .ensures) ∙ not-false _ (c .if4 .left)
+
+-- the lists that were lent; their sum is no longer than both together
+abbrev left : tie.After-add-ptr → List ℕ
+left a = a .before .before .before .before .before .before .before .before .before .before .before .before .args .left .now
+
+abbrev right : tie.After-add-ptr → List ℕ
+right a = a .before .before .before .before .before .before .before .before .before .before .before .before .args .right .now
+
+sum-short : (a : tie.After-add-ptr) → length (symDiff (left a) (right a)) ≤ length (left a) + length (right a)
+sum-short a = length-symDiff-le (left a) (right a)
 
 returns : tie.Need-returns
 unfolding sumCall
@@ -53,7 +69,7 @@ returns-6 c =
     let e = a .before .before .before in
     let i = e .before .before .before in
     let g = a .add-ptr .ensures in
-    simp (z .zero-numbers .ensures ∙ settle-front _ _ _ _ _ _ g (a .before .before .if5 .left), g .size, le-leb _ _ (i .before .before .if1 .left), le-leb _ _ (i .before .if2 .left), left-rises (e .before .before), right-rises e, le-leb _ _ (a .before .before .if5 .left)) (refl, refl)
+    simp (settle-front (symDiff (left a) (right a)) _ (length (left a) + length (right a)) (omega (arith, sum-short a, a .before .before .if5 .left)) (g .0) (g .1) (z .zero-numbers .ensures), g .0, le-leb _ _ (i .before .before .if1 .left), le-leb _ _ (i .before .if2 .left), left-rises (e .before .before), right-rises e, le-leb _ _ (a .before .before .if5 .left)) (refl, refl)
 
 pub sum-spec : {M : Type 1} → statement M
 sum-spec =
@@ -74,6 +90,6 @@ sum-spec =
     returns-5
     (λ c κs. search needs)  -- add-ptr-requires
     (λ c. search needs)  -- add-zero-numbers
-    (λ c κs. search needs)  -- zero-numbers-requires
+    (λ c κs. let h = sum-short (c .before .before .before) in search needs)  -- zero-numbers-requires
     (λ c. search needs)  -- same-length
     returns-6)

@@ -12,13 +12,12 @@ copy-within-numbers-requires c κs = (omega arith, omega arith, inr (omega arith
 returns : tie.Need-returns
 returns c =
     let z2 = c .before .before in
-    let u = z2 .before .before in
-    let z1 = u .before .before .before in
+    let z1 = z2 .before .before .before .before in
     let t = z1 .before .before in
     let k = t .before .before .before in
     let g = k .before .before .before .before in
     let s = g .before .before .before in
-    settled (s .pre) (g .add-ptr-in .ensures) (k .copy-within-numbers .ensures) (t .larger .ensures) (z1 .zero-numbers .ensures) (u .smaller .ensures) (z2 .zero-numbers2 .ensures)
+    settled (s .pre) (g .add-ptr-in .ensures .0) (g .add-ptr-in .ensures .1 .1) (k .copy-within-numbers .ensures) (t .larger .ensures) (z1 .zero-numbers .ensures) (z2 .zero-numbers2 .ensures)
 
 pub add-into-spec : {M : Type 1} → statement M
 add-into-spec =
@@ -30,8 +29,6 @@ add-into-spec =
     (λ c. search needs)  -- add-zero-numbers
     (λ c. search needs)  -- add-zero-numbers-2
     (λ c κs. search needs)  -- zero-numbers-requires
-    (λ c. search needs)  -- add-smaller
-    (λ c κs. search needs)  -- smaller-requires
     (λ c. search needs)  -- add-zero-numbers-3
     (λ c κs. search needs)  -- zero-numbers-requires-2
     (λ c. search needs)  -- same-length

@@ -1,9 +1,10 @@
 -- The invariant is `MergingIn`, with a turn for each order of the two variables. The measure is what is left of both rows.
-use Prim.Native.Nat.{ℕ, _+_, _-_, _<_}
+use Prim.Native.Nat.{_+_, _-_, _<_}
 use native.Mathlib.Omega.{arith}
+use lib.ListN.{length}
 use borrow.Author.Needs.{needs}
 use borrow.Author.Tests.{ltb-true, ltb-false}
-use Rattle.row_sums.proofs.InRoom.{MergingIn, merging-begin, merging-low, merging-less, merging-more, merging-same, left-over, right-over}
+use Rattle.row_sums.proofs.InRoom.{MergingIn, merging-begin, less-low, more-low, merging-less, merging-more, merging-same, left-over, right-over}
 use Rattle.row_sums.proofs.merge_in.Statement.{statement}
 use Rattle.row_sums.proofs.merge_in.Tie as tie
 
@@ -13,24 +14,23 @@ Inv-loop area₀ n p li q lj s i₀ j₀ d₀ area i j d = MergingIn area₀ n p
 abbrev μ-loop : tie.MeasureT-loop
 μ-loop area₀ n p li q lj s i₀ j₀ d₀ area i j d = (li - i) + (lj - j)
 
--- neither row has ended, where a variable of the left one, or of the right one, is written
-low : (c : tie.Then2 Inv-loop μ-loop) → c .before .before .before .before .before .loop .d < c .before .before .before .before .before .before .args .n
-low c = merging-low (c .before .before .before .before .before .loop .inv) (search needs) (omega (arith, ltb-true))
+-- there is room for the variable that is written
+low : (c : tie.Then2 Inv-loop μ-loop) → c .before .before .before .before .before .before .args .s + c .before .before .before .before .before .loop .d < length (c .before .before .before .before .before .loop .area)
+low c = less-low (c .before .before .before .before .before .loop .inv) (search needs) (omega (arith, ltb-true)) (c .if2 .taken)
 
-low-2 : (c : tie.Then3 Inv-loop μ-loop) → c .before .before .before .before .before .before .loop .d < c .before .before .before .before .before .before .before .args .n
-low-2 c = merging-low (c .before .before .before .before .before .before .loop .inv) (search needs) (omega (arith, ltb-true))
+low-2 : (c : tie.Then3 Inv-loop μ-loop)
+    → c .before .before .before .before .before .before .before .args .s + c .before .before .before .before .before .before .loop .d < length (c .before .before .before .before .before .before .loop .area)
+low-2 c = more-low (c .before .before .before .before .before .before .loop .inv) (search needs) (omega (arith, ltb-true)) (c .if3 .taken)
 
 returns : tie.Need-returns Inv-loop μ-loop
 returns c =
     let m = c .before .before .loop .inv in
-    let h = ltb-false _ _ (c .if1 .left) in
-    (m .merged, right-over m h)
+    (right-over m (ltb-false _ _ (c .if1 .left)), m .merged .written .so-far)
 
 returns-2 : tie.Need-returns-2 Inv-loop μ-loop
 returns-2 c =
     let m = c .before .loop .inv in
-    let h = c .loop-test .left in
-    (m .merged, left-over m h)
+    (left-over m (c .loop-test .left), m .merged .written .so-far)
 
 pub merge-in-spec : {M : Type 1} → statement M
 merge-in-spec =

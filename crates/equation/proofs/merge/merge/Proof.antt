@@ -1,67 +1,41 @@
--- The invariant is `Merged`; a turn is `turn-front`. The measure is what is left of both lists.
-use Prim.Native.Nat.{ℕ, _+_, _-_}
-use mathlib.Core.Path.{_≡_}
-use mathlib.Core.Logic.{⊎-elim}
-use mathlib.Core.Bool.{cond, not, Bool·beq}
-use mathlib.Core.List.{List}
+-- The invariant is `Merged`, with a turn for each order of the two variables. The measure is what is left of both lists.
+use Prim.Native.Nat.{_+_, _-_, _<_}
+use native.Mathlib.Nat.{zero-add}
 use native.Mathlib.Omega.{arith}
-use lib.ListN.{length, getD}
-use lib.Dec.{leb}
+use lib.ListN.{length}
 use borrow.Author.Needs.{needs}
 use borrow.Author.Tests.{ltb-true, ltb-false}
-use Rattle.equation.specs.Merging.{Merged}
-use Rattle.equation.proofs.Turn.{flag-low, flags, merged-begin, turn-front, left-done, right-done}
+use Rattle.gf2.proofs.SymDiff.{length-symDiff-le}
+use Rattle.equation.proofs.Turn.{Merged, merged-begin, less-fits, more-fits, on-less, on-more, on-both, left-done, right-done}
 use Rattle.equation.proofs.merge.merge.Statement.{statement}
 use Rattle.equation.proofs.merge.merge.Tie as tie
 
 abbrev Inv-loop : tie.InvT-loop
-Inv-loop left right out₀ i₀ j₀ d₀ out i j d = Merged left right out₀ out 0 (length left + length right) i j d
+Inv-loop left right out₀ i₀ j₀ d₀ out i j d = Merged left right out₀ out 0 i j d
 
 abbrev μ-loop : tie.MeasureT-loop
 μ-loop left right out₀ i₀ j₀ d₀ out i j d = (length left - i) + (length right - j)
 
--- the values in a turn: the lists, how far each is, and the two elements
-abbrev At : tie.Joined2 Inv-loop μ-loop → tie.At-loop Inv-loop μ-loop
-At c = c .before .before .before .before .before
+-- there is room for the variable that is written
+low : (c : tie.Then2 Inv-loop μ-loop) → c .before .before .before .before .before .loop .d < length (c .before .before .before .before .before .loop .out)
+low c =
+    let w = c .before .before .before .before .before .loop .inv in
+    omega (arith, w .written, less-fits w (search needs) (omega (arith, ltb-true)) (c .if2 .taken))
 
-abbrev L : tie.Joined2 Inv-loop μ-loop → List ℕ
-L c = At c .before .args .left .now
-
-abbrev R : tie.Joined2 Inv-loop μ-loop → List ℕ
-R c = At c .before .args .right .now
-
-abbrev a : tie.Joined2 Inv-loop μ-loop → ℕ
-a c = getD (L c) (At c .loop .i) 0
-
-abbrev b : tie.Joined2 Inv-loop μ-loop → ℕ
-b c = getD (R c) (At c .loop .j) 0
-
--- what is written is the left element where it is at most the right one, and else the right one
-chosen : (c : tie.Joined2 Inv-loop μ-loop) → c .if2 .out ≡ cond (leb (a c) (b c)) (a c) (b c)
-chosen c = ⊎-elim (λ w. rw (w .0 .taken) (w .1)) (λ w. rw (w .0 .left) (w .1)) (c .if2 .came)
-
-add-i : tie.Need-add-i Inv-loop μ-loop
-add-i c = omega (arith, flag-low (leb (a c) (b c)))
-
-add-j : tie.Need-add-j Inv-loop μ-loop
-add-j c = omega (arith, flag-low (leb (b c) (a c)))
-
-add-d : tie.Need-add-d Inv-loop μ-loop
-add-d c = omega (arith, flag-low (not (Bool·beq (leb (a c) (b c)) (leb (b c) (a c)))))
-
-loop-less : tie.Need-loop-less Inv-loop μ-loop
-loop-less c = omega (arith, ltb-true, flag-low (leb (a c) (b c)), flag-low (leb (b c) (a c)), flags (a c) (b c))
-
-loop-again : tie.Need-loop-again Inv-loop μ-loop
-loop-again c =
-    rw (chosen c)
-    (turn-front (L c) (R c) (At c .before .args .out .now) (At c .loop .out) (length (L c) + length (R c)) (At c .loop .i) (At c .loop .j) (At c .loop .d) (search needs) (search needs) (omega (arith, ltb-true)) (search needs) (At c .loop .inv))
+low-2 : (c : tie.Then3 Inv-loop μ-loop) → c .before .before .before .before .before .before .loop .d < length (c .before .before .before .before .before .before .loop .out)
+low-2 c =
+    let w = c .before .before .before .before .before .before .loop .inv in
+    omega (arith, w .written, more-fits w (search needs) (omega (arith, ltb-true)) (c .if3 .taken))
 
 returns : tie.Need-returns Inv-loop μ-loop
-returns c = (c .before .before .loop .inv, right-done (c .before .before .loop .inv) (ltb-false _ _ (c .if1 .left)))
+returns c =
+    let w = c .before .before .loop .inv in
+    (right-done w (ltb-false _ _ (c .if1 .left)), w .written .so-far)
 
 returns-2 : tie.Need-returns-2 Inv-loop μ-loop
-returns-2 c = (c .before .loop .inv, left-done (c .before .loop .inv) (c .loop-test .left))
+returns-2 c =
+    let w = c .before .loop .inv in
+    (left-done w (c .loop-test .left), w .written .so-far)
 
 pub merge-spec : {M : Type 1} → statement M
 merge-spec =
@@ -69,21 +43,27 @@ merge-spec =
     (tie.spec
     Inv-loop
     μ-loop
-    (λ c. merged-begin _ _ _ _ _)  -- loop-holds
+    (λ c. merged-begin _ _ _ _ (omega (arith, length-symDiff-le (c .args .left .now) (c .args .right .now), c .pre)))  -- loop-holds
     (λ c. search needs)  -- mul-l
     (λ c. search needs)  -- shared-slice-read-l
-    (λ c. search needs)  -- mul-r
+    (λ c. omega (arith, ltb-true))  -- mul-r
     (λ c. search needs)  -- shared-slice-read-r
-    (λ c. search needs)  -- mul-out
-    (λ c. search needs)  -- slice-write-out
-    (λ c. search needs)  -- cast-i
-    add-i
-    (λ c. search needs)  -- cast-j
-    add-j
-    (λ c. search needs)  -- cast-d
-    add-d
-    loop-less
-    loop-again
+    (λ c. let h = low c in search needs)  -- mul-out
+    (λ c. let h = low c in search needs)  -- slice-write-out
+    (λ c. search needs)  -- add-i
+    (λ c. let h = low c in search needs)  -- add-d
+    (λ c. search needs)  -- loop-less
+    (λ c. rw (zero-add _) at (on-less (c .before .before .before .before .before .loop .inv) (search needs) (omega (arith, ltb-true)) (c .if2 .taken)))  -- loop-again
+    (λ c. let h = low-2 c in search needs)  -- mul-out-2
+    (λ c. let h = low-2 c in search needs)  -- slice-write-out-2
+    (λ c. omega (arith, ltb-true))  -- add-j
+    (λ c. let h = low-2 c in search needs)  -- add-d-2
+    (λ c. omega (arith, ltb-true))  -- loop-less-2
+    (λ c. rw (zero-add _) at (on-more (c .before .before .before .before .before .before .loop .inv) (search needs) (omega (arith, ltb-true)) (c .if3 .taken)))  -- loop-again-2
+    (λ c. search needs)  -- add-i-2
+    (λ c. omega (arith, ltb-true))  -- add-j-2
+    (λ c. omega (arith, ltb-true))  -- loop-less-3
+    (λ c. on-both (c .before .before .before .before .before .before .loop .inv) (search needs) (omega (arith, ltb-true)) (omega (arith, c .before .if2 .left, c .if3 .left)))  -- loop-again-3
     (λ c. search needs)  -- same-length
     returns
     (λ c. search needs)  -- same-length-2
