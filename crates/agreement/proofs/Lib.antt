@@ -1,0 +1,4 @@
+pub mod Orders
+pub mod OneTable
+pub mod Examples
+pub mod NoLazyLaw

@@ -1,0 +1,1 @@
+// Why sparse and dense agree: definitions in specs/, laws in proofs/, no code.
