@@ -22,13 +22,13 @@ pub merged-begin : (l r before : List ℕ) (s : ℕ) → s + length (symDiff l r
 merged-begin l r before s room = record { in-left = omega arith; in-right = omega arith; written = copying-begin (symDiff l r) before s room; to-come = refl }
 
 -- x stands at place d of the sum, and xs behind it
-record Next (sum : List ℕ) (d x : ℕ) (xs : List ℕ) : Type 0 where
+record NextIs (sum : List ℕ) (d x : ℕ) (xs : List ℕ) : Type 0 where
   here : d < length sum
   value : getD sum d 0 ≡ x
   behind : drop (d + 1) sum ≡ xs
 
-next : (sum : List ℕ) (d x : ℕ) (xs : List ℕ) → drop d sum ≡ x ∷ xs → Next sum d x xs
-next sum d x xs e =
+next-is : (sum : List ℕ) (d x : ℕ) (xs : List ℕ) → drop d sum ≡ x ∷ xs → NextIs sum d x xs
+next-is sum d x xs e =
     let k : length (drop d sum) ≡ suc (length xs) = ap length e in
     let h : d < length sum = omega (arith, length-drop d sum) in
     let c : getD sum d 0 ∷ drop (suc d) sum ≡ x ∷ xs = sym (drop-cons sum d 0 h) ∙ e in
@@ -36,11 +36,11 @@ next sum d x xs e =
 
 module _ {l r before out : List ℕ} {s i j d : ℕ} (w : Merged l r before out s i j d) (hi : i < length l) (hj : j < length r) where
   -- the smaller of the two variables is the next of the sum
-  next-less : getD l i 0 < getD r j 0 → Next (symDiff l r) d (getD l i 0) (symDiff (drop (i + 1) l) (drop j r))
-  next-less h = next (symDiff l r) d (getD l i 0) (symDiff (drop (i + 1) l) (drop j r)) (w .to-come ∙ turn-less l r i j hi hj h)
+  next-less : getD l i 0 < getD r j 0 → NextIs (symDiff l r) d (getD l i 0) (symDiff (drop (i + 1) l) (drop j r))
+  next-less h = next-is (symDiff l r) d (getD l i 0) (symDiff (drop (i + 1) l) (drop j r)) (w .to-come ∙ turn-less l r i j hi hj h)
 
-  next-more : getD r j 0 < getD l i 0 → Next (symDiff l r) d (getD r j 0) (symDiff (drop i l) (drop (j + 1) r))
-  next-more h = next (symDiff l r) d (getD r j 0) (symDiff (drop i l) (drop (j + 1) r)) (w .to-come ∙ turn-more l r i j hi hj h)
+  next-more : getD r j 0 < getD l i 0 → NextIs (symDiff l r) d (getD r j 0) (symDiff (drop i l) (drop (j + 1) r))
+  next-more h = next-is (symDiff l r) d (getD r j 0) (symDiff (drop i l) (drop (j + 1) r)) (w .to-come ∙ turn-more l r i j hi hj h)
 
   -- .. so there is room for it
   pub less-fits : getD l i 0 < getD r j 0 → d < length (symDiff l r)

@@ -11,7 +11,7 @@ use Rattle.equation.specs.Merging.{Ended}
 use Rattle.equation.proofs.Gather.{gather}
 use Rattle.row_sums.specs.AddFits.{AddFits}
 use Rattle.row_sums.specs.RowSum.{rowSum}
-use Rattle.row_sums.proofs.InRoom.{sizes, rests}
+use Rattle.row_sums.proofs.InRoom.{lengths-of, rests}
 
 -- what is left of a row, read from the area
 pub row-from : (i b n c : ℕ) (l l′ : List ℕ) → take c l ≡ take c l′ → i ≤ n → b + n ≤ c → stretch (b + i) (n - i) l ≡ drop i (stretch b n l′)
@@ -24,7 +24,7 @@ pub gather-rows : {area₀ a₁ a₂ a₃ : List ℕ} {n p li q lj s i j d : ℕ
     → (d + (li - i) + (lj - j) ≡ length (rowSum area₀ p li q lj)) × (a₃ ≡ put s (rowSum area₀ p li q lj) area₀)
 gather-rows {area₀} {a₁} {a₂} {n = n} {p} {li} {q} {lj} {s} {i} {j} {d} f e e₁ e₂ e₃ =
     let sum : List ℕ = rowSum area₀ p li q lj in
-    let z = sizes f in
+    let z = lengths-of f in
     let t = rests f e in
     let long : length a₁ ≡ length area₀ = ap length e₁ ∙ length-put s (take d sum) area₀ (omega (arith, length-take-le d sum (omega (arith, e .size)), e .size)) in
     let front : take s a₁ ≡ take s area₀ = ap (λ (l : List ℕ). take s l) e₁ ∙ take-put-before s s (take d sum) area₀ (omega arith) (omega arith) in

@@ -13,25 +13,25 @@ use Rattle.row_sums.specs.AddFits.{AddFits}
 use Rattle.row_sums.specs.RowSum.{rowSum}
 
 -- the lengths of two rows that can be added, and of their sum
-pub record Sizes (area : List ℕ) (n p li q lj : ℕ) : Type 0 where
+pub record Lengths (area : List ℕ) (n p li q lj : ℕ) : Type 0 where
   pub left-long : length (stretch p li area) ≡ li
   pub right-long : length (stretch q lj area) ≡ lj
   pub sum-short : length (rowSum area p li q lj) ≤ n
 
-pub sizes : {area : List ℕ} {n p li q lj s : ℕ} → AddFits area n p li q lj s → Sizes area n p li q lj
-sizes {area} {n} {p} {li} {q} {lj} f =
+pub lengths-of : {area : List ℕ} {n p li q lj s : ℕ} → AddFits area n p li q lj s → Lengths area n p li q lj
+lengths-of {area} {n} {p} {li} {q} {lj} f =
     let k = rising-length 0 n (rowSum area p li q lj) (omega arith) (rising-symDiff 0 n (stretch p li area) (stretch q lj area) (f .left-rises) (f .right-rises)) in
     record { left-long = length-stretch p li area (omega arith); right-long = length-stretch q lj area (omega arith); sum-short = omega arith }
 
 -- i numbers of the row at p and j of the row at q are done, and d variables of the sum stand in the scratch row
 pub record MergingIn (area₀ : List ℕ) (n p li q lj s : ℕ) (area : List ℕ) (i j d : ℕ) : Type 0 where
   pub fits : AddFits area₀ n p li q lj s
-  pub lengths : Sizes area₀ n p li q lj
+  pub lengths : Lengths area₀ n p li q lj
   pub merged : Merged (stretch p li area₀) (stretch q lj area₀) area₀ area s i j d
 
 pub merging-begin : (area : List ℕ) (n p li q lj s : ℕ) → AddFits area n p li q lj s → MergingIn area n p li q lj s area 0 0 0
 merging-begin area n p li q lj s f =
-    let z = sizes f in
+    let z = lengths-of f in
     record { fits = f; lengths = z; merged = merged-begin (stretch p li area) (stretch q lj area) area s (omega arith) }
 
 module _ {area₀ area : List ℕ} {n p li q lj s i j d : ℕ} (m : MergingIn area₀ n p li q lj s area i j d) (hi : i < li) (hj : j < lj) where
@@ -96,7 +96,7 @@ pub record Rests (n li lj i j d : ℕ) : Type 0 where
 
 pub rests : {area : List ℕ} {n p li q lj s i j d : ℕ} → AddFits area n p li q lj s → Ended (stretch p li area) (stretch q lj area) i j d → Rests n li lj i j d
 rests f e =
-    let z = sizes f in
+    let z = lengths-of f in
     record {
       in-left = omega (arith, e .in-left, z .left-long);
       in-right = omega (arith, e .in-right, z .right-long);

@@ -11,13 +11,13 @@ use Rattle.areas.proofs.Rows.{length-padded, put-padded}
 use Rattle.equation.proofs.Settle.{zeroed-behind}
 use Rattle.row_sums.specs.AddFits.{AddFits}
 use Rattle.row_sums.specs.RowSum.{rowSum}
-use Rattle.row_sums.proofs.InRoom.{sizes}
+use Rattle.row_sums.proofs.InRoom.{lengths-of}
 
 -- a list in the scratch row, copied to the row at p, with zeros behind it and where it stood
 settle-row : (area sum : List ℕ) (n p li q lj s : ℕ) → AddFits area n p li q lj s → length sum ≤ n
     → zeroed s (s + length sum) (zeroed (p + length sum) (p + max li (length sum)) (put p (stretch s (length sum) (put s sum area)) (put s sum area))) ≡ put p (padded n sum) area
 settle-row area sum n p li q lj s f short =
-    let z = sizes f in
+    let z = lengths-of f in
     let len : ℕ = length sum in
     let top : ℕ = max li len in
     let P : List ℕ = padded top sum in
@@ -40,4 +40,4 @@ pub settled : {area₀ a₁ a₂ a₃ a₄ : List ℕ} {n p li q lj s len top : 
     → a₂ ≡ put p (stretch s len a₁) a₁ → top ≡ max li len → a₃ ≡ zeroed (p + len) (p + top) a₂ → a₄ ≡ zeroed s (s + len) a₃
     → (len ≡ length (rowSum area₀ p li q lj)) × (a₄ ≡ put p (padded n (rowSum area₀ p li q lj)) area₀)
 settled {area₀} {n = n} {p} {li} {q} {lj} {s} f size e₁ e₂ et e₃ e₄ =
-    (size, rw (e₄, e₃, et, e₂, e₁, size) (settle-row area₀ (rowSum area₀ p li q lj) n p li q lj s f (sizes f .sum-short)))
+    (size, rw (e₄, e₃, et, e₂, e₁, size) (settle-row area₀ (rowSum area₀ p li q lj) n p li q lj s f (lengths-of f .sum-short)))
