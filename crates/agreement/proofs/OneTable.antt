@@ -28,14 +28,14 @@ use Rattle.agreement.proofs.Orders.{same-sym, reordered, canonical-is-s
 -- ---- what either call returns for the equations es in n variables
 
 -- a call that comes to its run (no refusal from 1 to 5), where what it is lent reads as es
-pub data Built (n : ℕ) : List Equation → Call → Type 0 where
-  by-sparse : (l : Lent) → SparseRuns n l → Built n (system l) (sparseOn n l)
-  by-dense : (d : DenseLent) → DenseRuns n d → Built n (denseSystem n d) (denseOn n d)
+pub data RunOn (n : ℕ) : List Equation → Call → Type 0 where
+  by-sparse : (l : Lent) → SparseRuns n l → RunOn n (system l) (sparseOn n l)
+  by-dense : (d : DenseLent) → DenseRuns n d → RunOn n (denseSystem n d) (denseOn n d)
 
 -- 0 and the smallest solution, or 6 and a set of equations that cancels
-pub data Ends (n : ℕ) (es : List Equation) (call : Call) : Type 0 where
-  solves : call .answer ≡ Solved → Smallest n es (call .solution) → Ends n es call
-  clashes : call .answer ≡ Unsolvable → (mask : List Bool) → Cancels mask es → Ends n es call
+pub data RunEnds (n : ℕ) (es : List Equation) (call : Call) : Type 0 where
+  solves : call .answer ≡ Solved → Smallest n es (call .solution) → RunEnds n es call
+  clashes : call .answer ≡ Unsolvable → (mask : List Bool) → Cancels mask es → RunEnds n es call
 
 -- a call that comes to its run answers 0 or 6
 answered : {n kn kw : ℕ} {run : Result (List ℕ)} {solution numbers words : List ℕ} {rules : Rules} → Admitted n kn kw run solution numbers words rules
@@ -48,44 +48,44 @@ answered {n} {kn} {kw} {run} {solution} {numbers} {words} {rules} a =
     go (ok x) = inl refl
 
 ends : (n : ℕ) (es : List Equation) (call : Call) → Sorted es → (call .answer ≡ Solved → Canonical n es (call .solution))
-    → (call .answer ≡ Unsolvable → (mask : List Bool) × Cancels mask es) → (call .answer ≡ Solved) ⊎ (call .answer ≡ Unsolvable) → Ends n es call
+    → (call .answer ≡ Unsolvable → (mask : List Bool) × Cancels mask es) → (call .answer ≡ Solved) ⊎ (call .answer ≡ Unsolvable) → RunEnds n es call
 ends n es call s canonical cancels (inl e) = solves e (canonical-is-smallest n es (call .solution) s (canonical e))
 ends n es call s canonical cancels (inr e) = let k = cancels e in clashes e (k .0) (k .1)
 
-built-sorted : {n : ℕ} {es : List Equation} {call : Call} → Built n es call → Sorted es
-built-sorted {n} (by-sparse l a) = kept-sound n (l .m) (l .starts) (l .vars) (l .constants) (a .kept) .sorted
-built-sorted {n} (by-dense d a) = sorted-rows n (rowsOf (d .m) (d .w) (d .rows) (d .constants))
+run-sorted : {n : ℕ} {es : List Equation} {call : Call} → RunOn n es call → Sorted es
+run-sorted {n} (by-sparse l a) = kept-sound n (l .m) (l .starts) (l .vars) (l .constants) (a .kept) .sorted
+run-sorted {n} (by-dense d a) = sorted-rows n (rowsOf (d .m) (d .w) (d .rows) (d .constants))
 
-pub built-ends : {n : ℕ} {es : List Equation} {call : Call} → Built n es call → Ends n es call
+pub run-ends : {n : ℕ} {es : List Equation} {call : Call} → RunOn n es call → RunEnds n es call
 unfolding sparseCall denseCall
-built-ends {n} (by-sparse l a) = ends n (system l) (sparseOn n l) (built-sorted (by-sparse l a)) (sparseCall-canonical n l) (sparseCall-exact n l a .0) (answered a)
-built-ends {n} (by-dense d a) = ends n (denseSystem n d) (denseOn n d) (built-sorted (by-dense d a)) (denseCall-canonical n d) (denseCall-exact n d a .0) (answered a)
+run-ends {n} (by-sparse l a) = ends n (system l) (sparseOn n l) (run-sorted (by-sparse l a)) (sparseCall-canonical n l) (sparseCall-exact n l a .0) (answered a)
+run-ends {n} (by-dense d a) = ends n (denseSystem n d) (denseOn n d) (run-sorted (by-dense d a)) (denseCall-canonical n d) (denseCall-exact n d a .0) (answered a)
 
 -- ---- the theorems
 
--- Two builds of the same equations, each by sparse or by dense elimination, in whatever orders: one answer, 0 or 6, and after 0 one table.
-pub one-answer : {n : ℕ} {es fs : List Equation} {c d : Call} → Built n es c → Built n fs d → SameEquations es fs
+-- Two runs on the same equations, each by sparse or by dense elimination, in whatever orders: one answer, 0 or 6, and after 0 one table.
+pub one-answer : {n : ℕ} {es fs : List Equation} {c d : Call} → RunOn n es c → RunOn n fs d → SameEquations es fs
     → (c .answer ≡ d .answer) × (c .answer ≡ Solved → c .solution ≡ d .solution)
-one-answer {n} {es} {fs} {c} {d} p q same = go (built-ends p) (built-ends q)
+one-answer {n} {es} {fs} {c} {d} p q same = go (run-ends p) (run-ends q)
   where
-    go : Ends n es c → Ends n fs d → (c .answer ≡ d .answer) × (c .answer ≡ Solved → c .solution ≡ d .solution)
+    go : RunEnds n es c → RunEnds n fs d → (c .answer ≡ d .answer) × (c .answer ≡ Solved → c .solution ≡ d .solution)
     go (solves e h) (solves f k) = (e ∙ sym f, λ _. smallest-unique n es (c .solution) (d .solution) h (smallest-same n (d .solution) (same-sym same) k))
     go (solves e h) (clashes f mask k) =
-        absurd (solved-not-cancels fs (c .solution) mask (built-sorted q) (smallest-same n (c .solution) same h .solves .meets) k)
+        absurd (solved-not-cancels fs (c .solution) mask (run-sorted q) (smallest-same n (c .solution) same h .solves .meets) k)
     go (clashes e mask k) (solves f h) =
-        absurd (solved-not-cancels es (d .solution) mask (built-sorted p) (smallest-same n (d .solution) (same-sym same) h .solves .meets) k)
+        absurd (solved-not-cancels es (d .solution) mask (run-sorted p) (smallest-same n (d .solution) (same-sym same) h .solves .meets) k)
     go (clashes e mask k) (clashes f mask′ k′) = (e ∙ sym f, λ g. let z : _≡_ {A = ℕ} 0 1 = cc in absurd (omega arith))
 
 -- Solvable equations: the answer is 0, and the solution slice holds the smallest solution.
-pub smallest-table : {n : ℕ} {es : List Equation} {call : Call} → Built n es call → Solvable n es → (call .answer ≡ Solved) × Smallest n es (call .solution)
-smallest-table {n} {es} {call} b s = go (built-ends b)
+pub smallest-table : {n : ℕ} {es : List Equation} {call : Call} → RunOn n es call → Solvable n es → (call .answer ≡ Solved) × Smallest n es (call .solution)
+smallest-table {n} {es} {call} b s = go (run-ends b)
   where
-    go : Ends n es call → (call .answer ≡ Solved) × Smallest n es (call .solution)
+    go : RunEnds n es call → (call .answer ≡ Solved) × Smallest n es (call .solution)
     go (solves e h) = (e, h)
-    go (clashes e mask h) = absurd (solved-not-cancels es (s .x) mask (built-sorted b) (s .solves .meets) h)
+    go (clashes e mask h) = absurd (solved-not-cancels es (s .x) mask (run-sorted b) (s .solves .meets) h)
 
--- Two builds of the same solvable equations, each by sparse or by dense elimination, in whatever orders: one and the same vector, the smallest solution.
-pub one-table : {n : ℕ} {es fs : List Equation} {c d : Call} → Built n es c → Built n fs d → SameEquations es fs → Solvable n es
+-- Two runs on the same solvable equations, each by sparse or by dense elimination, in whatever orders: one and the same vector, the smallest solution.
+pub one-table : {n : ℕ} {es fs : List Equation} {c d : Call} → RunOn n es c → RunOn n fs d → SameEquations es fs → Solvable n es
     → (c .answer ≡ Solved) × (d .answer ≡ Solved) × (c .solution ≡ d .solution) × Smallest n es (c .solution)
 one-table p q same s =
     let least = smallest-table p s in
@@ -98,14 +98,14 @@ pub sparse-dense-agree : {n : ℕ} (l : Lent) (d : DenseLent) → SparseRuns n l
 sparse-dense-agree l d p q same s = one-table (by-sparse l p) (by-dense d q) same s .2
 
 -- .. of which another order is the plain case
-pub any-order : {n : ℕ} {es fs : List Equation} {c d : Call} → Built n es c → Built n fs d → List·Permᴰ es fs → Solvable n es
+pub any-order : {n : ℕ} {es fs : List Equation} {c d : Call} → RunOn n es c → RunOn n fs d → List·Permᴰ es fs → Solvable n es
     → (c .answer ≡ Solved) × (d .answer ≡ Solved) × (c .solution ≡ d .solution) × Smallest n es (c .solution)
 any-order p q moved = one-table p q (reordered moved)
 
 -- an answer of 0 shows that there is a solution
-pub solved-solvable : {n : ℕ} {es : List Equation} {call : Call} → Built n es call → call .answer ≡ Solved → Solvable n es
-solved-solvable {n} {es} {call} b e = go (built-ends b)
+pub solved-solvable : {n : ℕ} {es : List Equation} {call : Call} → RunOn n es call → call .answer ≡ Solved → Solvable n es
+solved-solvable {n} {es} {call} b e = go (run-ends b)
   where
-    go : Ends n es call → Solvable n es
+    go : RunEnds n es call → Solvable n es
     go (solves f h) = record { x = call .solution; solves = h .solves }
     go (clashes f mask h) = let z : _≡_ {A = ℕ} 0 1 = cc in absurd (omega arith)

@@ -10,8 +10,8 @@ use crate::counts::MOVED;
 use crate::counts::count_if;
 use crate::orders::repeat;
 use crate::orders::shuffle;
-use crate::solving::Found;
-use crate::solving::Three;
+use crate::solving::ByEach;
+use crate::solving::Came;
 use crate::solving::solve;
 use answers::Answer;
 use bench_checks::tally::DENSE;
@@ -31,13 +31,13 @@ const SYSTEMS: usize = 320;
 const ORDERS: usize = 4;
 
 // Equations as rows of two words and their constants; one more may follow.
-struct Drawn {
+struct DrawnRows {
     rows: [u64; 122],
     constants: [u64; 61],
 }
 
 // m equations of at most six variables that some values meet, or one of which is spoilt.
-fn draw(seed: &mut u64, n: usize, m: usize) -> Drawn
+fn draw(seed: &mut u64, n: usize, m: usize) -> DrawnRows
     requires { ⌜ (n ≤ 80) × (m ≤ 60) ⌝ }
     ensures { λ r. ⌜ (length (r .rows) ≡ 122) × (length (r .constants) ≡ 61) ⌝ }
 {
@@ -64,7 +64,7 @@ fn draw(seed: &mut u64, n: usize, m: usize) -> Drawn
     if below(seed, 3) == 0 {
         spoil(seed, m, &mut constants);
     }
-    Drawn { rows, constants }
+    DrawnRows { rows, constants }
 }
 
 // 0 or 6: the call was not refused before its run.
@@ -76,7 +76,7 @@ fn ran(answer: Answer) -> bool {
     }
 }
 
-fn same_table(a: Found, b: Found) -> bool {
+fn same_table(a: Came, b: Came) -> bool {
     let x = a.x;
     let y = b.x;
     same_words(&x, &y)
@@ -95,7 +95,7 @@ fn counted(tally: &mut [u64; 79], row: usize, answer: Answer)
 }
 
 // Counts an answer, and holds it and its table to the first that sparse gave.
-fn held(tally: &mut [u64; 79], row: usize, first: Found, found: Found)
+fn held(tally: &mut [u64; 79], row: usize, first: Came, found: Came)
     requires { ⌜ row < 7 ⌝ }
 {
     let must = first.answer;
@@ -106,7 +106,7 @@ fn held(tally: &mut [u64; 79], row: usize, first: Found, found: Found)
 }
 
 // Sparse and dense are held to the first list; whether lazy gave another table is told.
-fn compared(tally: &mut [u64; 79], first: Three, again: Three) -> bool {
+fn compared(tally: &mut [u64; 79], first: ByEach, again: ByEach) -> bool {
     held(tally, SPARSE, first.sparse, again.sparse);
     held(tally, DENSE, first.sparse, again.dense);
     !same_table(first.lazy, again.lazy)
@@ -121,7 +121,7 @@ fn reordered(
     m: usize,
     rows: &mut [u64; 122],
     constants: &mut [u64; 61],
-    first: Three,
+    first: ByEach,
 ) -> bool
     requires { ⌜ (n ≤ 80) × (m ≤ 61) ⌝ }
 {
@@ -132,7 +132,7 @@ fn reordered(
 }
 
 // The list that was drawn: dense is held to sparse.
-fn drawn_first(tally: &mut [u64; 79], seen: &mut [u64; 5], first: Three) {
+fn drawn_first(tally: &mut [u64; 79], seen: &mut [u64; 5], first: ByEach) {
     let sparse = first.sparse;
     let answer = sparse.answer;
     counted(tally, SPARSE, answer);
@@ -150,7 +150,7 @@ fn in_orders(
     m: usize,
     rows: &mut [u64; 122],
     constants: &mut [u64; 61],
-    first: Three,
+    first: ByEach,
 )
     requires { ⌜ (n ≤ 80) × (m ≤ 60) ⌝ }
 {

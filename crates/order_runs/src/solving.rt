@@ -8,15 +8,15 @@ use lazy_calls::lazy_gaussian_elimination;
 use sparse::gaussian_elimination;
 
 // What a solver came to; where it gave no table, x is as it was lent.
-pub struct Found {
+pub struct Came {
     pub answer: Answer,
     pub x: [u64; 80],
 }
 
-pub struct Three {
-    pub sparse: Found,
-    pub dense: Found,
-    pub lazy: Found,
+pub struct ByEach {
+    pub sparse: Came,
+    pub dense: Came,
+    pub lazy: Came,
 }
 
 // The three solvers, one after the other in the same work areas.
@@ -29,7 +29,7 @@ fn by_all(
     constants: &[u64],
     numbers: &mut [u32],
     words: &mut [u64],
-) -> Three
+) -> ByEach
     requires { ⌜ n ≤ 80 ⌝ }
 {
     let mut x = [0u64; 80];
@@ -38,15 +38,15 @@ fn by_all(
     let a = gaussian_elimination(n, m, starts, vars, constants, &mut x[..n], numbers, words);
     let b = dense_gaussian_elimination(n, m, 2, rows, constants, &mut y[..n], numbers, words);
     let c = lazy_gaussian_elimination(n, m, starts, vars, constants, &mut z[..n], numbers, words);
-    Three {
-        sparse: Found { answer: a, x },
-        dense: Found { answer: b, x: y },
-        lazy: Found { answer: c, x: z },
+    ByEach {
+        sparse: Came { answer: a, x },
+        dense: Came { answer: b, x: y },
+        lazy: Came { answer: c, x: z },
     }
 }
 
 // The first m of the rows; lent what lazy elimination or dense rows ask for at most.
-pub fn solve(n: usize, m: usize, rows: &[u64], constants: &[u64]) -> Three
+pub fn solve(n: usize, m: usize, rows: &[u64], constants: &[u64]) -> ByEach
     requires { ⌜ (n ≤ 80) × (m ≤ 61) × (2 * m ≤ length (now rows)) × (m ≤ length (now constants)) ⌝ }
 {
     let mut starts = [0u32; 62];
