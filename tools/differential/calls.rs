@@ -1,10 +1,10 @@
 //! The proved calls of the crates `exports` and `peel_exports`, lent memory with marks on both sides.
 
 unsafe extern "C" {
-    fn orohkaril_sum(left: *const u32, left_len: usize, right: *const u32, right_len: usize, left_c: u64, right_c: u64, out: *mut u32, out_len: usize, len: *mut usize, constant: *mut u64, place: *mut usize) -> u32;
+    fn orohkaril_sum(left: *const u32, left_len: usize, right: *const u32, right_len: usize, left_c: u64, right_c: u64, out: *mut u32, out_len: usize, len: *mut usize, constant: *mut u64, cancelled: *mut usize, place: *mut usize) -> u32;
     fn orohkaril_check(n: usize, m: usize, starts: *const u32, starts_len: usize, vars: *const u32, vars_len: usize, constants: *const u64, constants_len: usize, solution: *const u64, solution_len: usize, place: *mut usize) -> u32;
-    fn orohkaril_sparse(n: usize, m: usize, starts: *const u32, starts_len: usize, vars: *const u32, vars_len: usize, constants: *const u64, constants_len: usize, solution: *mut u64, solution_len: usize, numbers: *mut u32, numbers_len: usize, words: *mut u64, words_len: usize, place: *mut usize) -> u32;
-    fn orohkaril_lazy(n: usize, m: usize, starts: *const u32, starts_len: usize, vars: *const u32, vars_len: usize, constants: *const u64, constants_len: usize, solution: *mut u64, solution_len: usize, numbers: *mut u32, numbers_len: usize, words: *mut u64, words_len: usize, place: *mut usize) -> u32;
+    fn orohkaril_sparse(n: usize, m: usize, starts: *const u32, starts_len: usize, vars: *const u32, vars_len: usize, constants: *const u64, constants_len: usize, solution: *mut u64, solution_len: usize, numbers: *mut u32, numbers_len: usize, words: *mut u64, words_len: usize, cancelled: *mut u64, place: *mut usize) -> u32;
+    fn orohkaril_lazy(n: usize, m: usize, starts: *const u32, starts_len: usize, vars: *const u32, vars_len: usize, constants: *const u64, constants_len: usize, solution: *mut u64, solution_len: usize, numbers: *mut u32, numbers_len: usize, words: *mut u64, words_len: usize, cancelled: *mut u64, place: *mut usize) -> u32;
     fn orohkaril_dense(n: usize, m: usize, w: usize, rows: *const u64, rows_len: usize, constants: *const u64, constants_len: usize, solution: *mut u64, solution_len: usize, numbers: *mut u32, numbers_len: usize, words: *mut u64, words_len: usize, place: *mut usize) -> u32;
     // a struct of 40 bytes is handed back through a pointer that is passed first: the convention of x86-64, which the module keeps on every machine
     fn orohkaril_peel_high(told: *mut Told, n: usize, edges: *const Edge, edges_len: usize, solution: *mut u64, solution_len: usize, numbers: *mut u32, numbers_len: usize, bytes: *mut u8, bytes_len: usize) -> *mut Told;
@@ -87,20 +87,22 @@ pub struct LentAreas {
     pub words: Lent<u64>,
 }
 
-pub fn sparse(s: &System, a: &mut LentAreas) -> Answer {
-    let mut place = usize::MAX;
+/// The answer, and how many variables cancelled.
+pub fn sparse(s: &System, a: &mut LentAreas) -> (Answer, u64) {
+    let (mut place, mut cancelled) = (usize::MAX, u64::MAX);
     let number = unsafe {
-        orohkaril_sparse(s.n, s.m, s.starts.as_ptr(), s.starts.len(), s.vars.as_ptr(), s.vars.len(), s.constants.as_ptr(), s.constants.len(), a.solution.at(), a.solution.len(), a.numbers.at(), a.numbers.len(), a.words.at(), a.words.len(), &mut place)
+        orohkaril_sparse(s.n, s.m, s.starts.as_ptr(), s.starts.len(), s.vars.as_ptr(), s.vars.len(), s.constants.as_ptr(), s.constants.len(), a.solution.at(), a.solution.len(), a.numbers.at(), a.numbers.len(), a.words.at(), a.words.len(), &mut cancelled, &mut place)
     };
-    Answer(number, place)
+    (Answer(number, place), cancelled)
 }
 
-pub fn lazy(s: &System, a: &mut LentAreas) -> Answer {
-    let mut place = usize::MAX;
+/// The answer, and how many variables cancelled.
+pub fn lazy(s: &System, a: &mut LentAreas) -> (Answer, u64) {
+    let (mut place, mut cancelled) = (usize::MAX, u64::MAX);
     let number = unsafe {
-        orohkaril_lazy(s.n, s.m, s.starts.as_ptr(), s.starts.len(), s.vars.as_ptr(), s.vars.len(), s.constants.as_ptr(), s.constants.len(), a.solution.at(), a.solution.len(), a.numbers.at(), a.numbers.len(), a.words.at(), a.words.len(), &mut place)
+        orohkaril_lazy(s.n, s.m, s.starts.as_ptr(), s.starts.len(), s.vars.as_ptr(), s.vars.len(), s.constants.as_ptr(), s.constants.len(), a.solution.at(), a.solution.len(), a.numbers.at(), a.numbers.len(), a.words.at(), a.words.len(), &mut cancelled, &mut place)
     };
-    Answer(number, place)
+    (Answer(number, place), cancelled)
 }
 
 pub fn dense(s: &Rows, a: &mut LentAreas) -> Answer {
@@ -117,11 +119,11 @@ pub fn check(s: &System, solution: &[u64]) -> Answer {
     Answer(number, place)
 }
 
-/// The answer, the sum's length and its constant.
-pub fn sum(left: &[u32], right: &[u32], left_c: u64, right_c: u64, out: &mut Lent<u32>) -> (Answer, usize, u64) {
-    let (mut place, mut len, mut constant) = (usize::MAX, usize::MAX, u64::MAX);
-    let number = unsafe { orohkaril_sum(left.as_ptr(), left.len(), right.as_ptr(), right.len(), left_c, right_c, out.at(), out.len(), &mut len, &mut constant, &mut place) };
-    (Answer(number, place), len, constant)
+/// The answer, the sum's length, its constant and how many variables cancelled.
+pub fn sum(left: &[u32], right: &[u32], left_c: u64, right_c: u64, out: &mut Lent<u32>) -> (Answer, usize, u64, usize) {
+    let (mut place, mut len, mut constant, mut cancelled) = (usize::MAX, usize::MAX, u64::MAX, usize::MAX);
+    let number = unsafe { orohkaril_sum(left.as_ptr(), left.len(), right.as_ptr(), right.len(), left_c, right_c, out.at(), out.len(), &mut len, &mut constant, &mut cancelled, &mut place) };
+    (Answer(number, place), len, constant, cancelled)
 }
 
 pub struct LentPeelAreas {

@@ -1,6 +1,7 @@
 //! One call with all that it is lent, and the comparison with the Rust.
 use crate::calls::{self, Answer, Lent, LentAreas, Rows, System};
 use crate::graphs::{self, Graph, PeelAreas};
+use crate::reference::{self, End};
 use crate::rules;
 use crate::shrink::{exact, system};
 use std::panic::catch_unwind;
@@ -64,9 +65,9 @@ pub fn compare(case: &Case) -> Result<u32, String> {
     match case {
         Case::Sum { left, right, left_c, right_c, out } => compare_sum(left, right, *left_c, *right_c, out),
         Case::Check(s, x) => compare_check(s, x),
-        Case::Sparse(s, a) => compare_system(s, a, calls::sparse, rules::sparse_room(s.n.min(1 << 20), s.m.min(1 << 20)), original::sparse),
+        Case::Sparse(s, a) => compare_system(s, a, calls::sparse, rules::sparse_room(s.n.min(1 << 20), s.m.min(1 << 20)), original::sparse, reference::sparse),
         Case::Lazy(s, a) => {
-            let number = compare_system(s, a, calls::lazy, rules::lazy_room(s.n.min(1 << 20), s.m.min(1 << 20), s.vars.len()), original::lazy)?;
+            let number = compare_system(s, a, calls::lazy, rules::lazy_room(s.n.min(1 << 20), s.m.min(1 << 20), s.vars.len()), original::lazy, reference::lazy)?;
             if number == 0 || number == 6 { sparse_too(s, number) } else { Ok(number) }
         }
         Case::Dense(s, a) => {
@@ -84,18 +85,28 @@ pub fn compare(case: &Case) -> Result<u32, String> {
     }
 }
 
-/// A sparse system by one of its two engines; what solves it is also held to `check`.
-fn compare_system(s: &System, a: &Areas, call: fn(&System, &mut LentAreas) -> Answer, room: (usize, usize), run: fn(usize, &[original::Eq]) -> Option<Vec<u64>>) -> Result<u32, String> {
+type Engine<A> = fn(usize, &[original::Eq]) -> A;
+
+/// A sparse system by one of its two engines; what solves it is also held to `check`, and what cancelled to the reference.
+fn compare_system(s: &System, a: &Areas, call: fn(&System, &mut LentAreas) -> (Answer, u64), room: (usize, usize), run: Engine<Option<Vec<u64>>>, counts: Engine<(End, u64)>) -> Result<u32, String> {
     let mut lent = lend(a);
     let kept = s.clone();
-    let got = call(s, &mut lent);
+    let (got, cancelled) = call(s, &mut lent);
     same("starts", &s.starts, &kept.starts)?;
     same("variables", &s.vars, &kept.vars)?;
     same("constants", &s.constants, &kept.constants)?;
     let before = ladder(rules::sparse(s), s.n, a, room);
     let number = settle(got, &lent, outcome(before, a, room, || run(s.n, &equations(s)))?)?;
     if number == 0 { checked(s, lent.solution.cells())?; }
-    Ok(number)
+    let total = if number == 0 || number == 6 { counted(s, (number == 0).then(|| lent.solution.cells()), counts)? } else { 0 };
+    if cancelled == total { Ok(number) } else { Err(format!("cancelled: here {cancelled}, expected {total}")) }
+}
+
+/// How many variables cancel, by the reference, which first has to end as the Rust does.
+fn counted(s: &System, rust: Option<&[u64]>, counts: Engine<(End, u64)>) -> Result<u64, String> {
+    let equations = equations(s);
+    let (end, total) = counts(s.n, &equations);
+    reference::held(&end, &equations, rust).map(|_| total)
 }
 
 /// A solution is what `check` says yes to.
@@ -116,7 +127,7 @@ fn listed(s: &Rows) -> Vec<original::Eq> {
 
 /// Sparse elimination solves what lazy elimination solves.
 fn sparse_too(s: &System, number: u32) -> Result<u32, String> {
-    let got = calls::sparse(s, &mut lend(&exact(s.n, rules::sparse_room(s.n, s.m))));
+    let (got, _) = calls::sparse(s, &mut lend(&exact(s.n, rules::sparse_room(s.n, s.m))));
     if got == Answer(number, 0) { Ok(number) } else { Err(format!("lazy says {number}, sparse {got:?}")) }
 }
 
@@ -194,13 +205,13 @@ fn compare_check(s: &System, x: &[u64]) -> Result<u32, String> {
 
 fn compare_sum(left: &[u32], right: &[u32], left_c: u64, right_c: u64, out: &[u32]) -> Result<u32, String> {
     let mut lent = Lent::new(out);
-    let (got, len, constant) = calls::sum(left, right, left_c, right_c, &mut lent);
+    let (got, len, constant, cancelled) = calls::sum(left, right, left_c, right_c, &mut lent);
     if !lent.margins_kept() {
         return Err("a cell outside the output was written".into());
     }
     if let Err(answer) = rules::sum(left, right, out.len()) {
-        if (got, len, constant) != (answer, 0, 0) {
-            return Err(format!("answer: here {got:?} {len} {constant}, expected {answer:?} 0 0"));
+        if (got, len, constant, cancelled) != (answer, 0, 0, 0) {
+            return Err(format!("answer: here {got:?} {len} {constant} {cancelled}, expected {answer:?} 0 0 0"));
         }
         return same("output", lent.cells(), out).map(|_| got.0);
     }
@@ -212,6 +223,10 @@ fn compare_sum(left: &[u32], right: &[u32], left_c: u64, right_c: u64, out: &[u3
     let here = format!("Modulo2Equation {{ vars: {:?}, c: {:?} }}", &lent.cells()[..len], constant);
     if here != rust {
         return Err(format!("here {here}, the Rust {rust}"));
+    }
+    let both = left.iter().filter(|v| right.binary_search(v).is_ok()).count();
+    if cancelled != both {
+        return Err(format!("cancelled: here {cancelled}, expected {both}"));
     }
     if lent.cells()[len..total].iter().any(|&v| v != 0) {
         return Err("no zeros up to the two lengths together".into());

@@ -18,6 +18,7 @@ mod generate;
 mod graph_inputs;
 mod graphs;
 mod limits;
+mod reference;
 mod rules;
 #[path = "../shared.rs"]
 mod shared;

@@ -75,7 +75,7 @@ fn sum(only: &str, n: usize, m: usize, seed: u64) {
     let (left, right) = (rising(&mut r, n, m), rising(&mut r, n, m));
     let (mut rust, other) = (original::make_equation(&(left.clone(), 6)), original::make_equation(&(right.clone(), 5)));
     let (mut out, mut short) = (Lent::new(&vec![7; 2 * m]), Lent::new(&vec![7; 2 * m - 1]));
-    phase(only, "rust", || rust.add(&other));
+    phase(only, "rust", || original::add(&mut rust, &other));
     phase(only, "here", || assert!(black_box(calls::sum(&left, &right, 6, 5, &mut out).0.0) == 0));
     phase(only, "rules", || assert!(black_box(calls::sum(&left, &right, 6, 5, &mut short).0.0) == 5));
     zeroing::<u32, u32>(only, out.cells(), &[]);
@@ -117,8 +117,8 @@ pub fn run(engine: &str, n: usize, m: usize, seed: u64, only: &str) {
     let eqs: Vec<Eq> = edges.iter().map(|e| { let mut v = e.vertices.to_vec(); v.sort(); (v, e.value) }).collect();
     let (s, w) = (system(n, &eqs), n.div_ceil(64));
     match engine {
-        "sparse" => { let mut rust = original::make_system(n, &eqs); solver(only, n, rules::sparse_room(n, m), || rust.gaussian_elimination().is_ok(), |a| calls::sparse(&s, a).0) }
-        "lazy" => { let mut rust = original::make_system(n, &eqs); solver(only, n, rules::lazy_room(n, m, 3 * m), || rust.lazy_gaussian_elimination().is_ok(), |a| calls::lazy(&s, a).0) }
+        "sparse" => { let mut rust = original::make_system(n, &eqs); solver(only, n, rules::sparse_room(n, m), || original::solve(&mut rust), |a| calls::sparse(&s, a).0.0) }
+        "lazy" => { let mut rust = original::make_system(n, &eqs); solver(only, n, rules::lazy_room(n, m, 3 * m), || original::solve_lazily(&mut rust), |a| calls::lazy(&s, a).0.0) }
         "dense" => {
             let rows = rows_of(n, w, &eqs, |v| v as usize);
             let (mut rust, mut constants) = (rows.rows.clone(), rows.constants.clone());

@@ -58,6 +58,25 @@ impl Answer {
     }
 }
 
+// What a solver's call answers, and how many variables cancelled in the sums that it made.
+pub struct Built {
+    pub answer: Answer,
+    pub cancelled: u64,
+}
+
+impl Built {
+    // A call that is refused before it makes a sum.
+    pub fn refused(answer: Answer) -> Built
+        ensures { λ r. ⌜ r .answer ≡ answer ⌝ }
+        ensures { λ r. ⌜ r .cancelled ≡ 0 ⌝ }
+    {
+        Built {
+            answer,
+            cancelled: 0,
+        }
+    }
+}
+
 // The largest n: variables, vertices, cells.
 pub const MAX_VARIABLES: usize = 16384;
 // The largest m: equations, rows, edges.

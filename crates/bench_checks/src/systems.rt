@@ -96,6 +96,31 @@ fn checked_if_solved(
     }
 }
 
+// Sparse elimination on marked memory.
+fn solve_sparse(
+    n: usize,
+    m: usize,
+    starts: &[u32],
+    vars: &[u32],
+    constants: &[u64],
+    solution: &mut [u64],
+    numbers: &mut [u32],
+    words: &mut [u64],
+) -> Answer {
+    mark(solution, numbers, words);
+    let built = sparse::gaussian_elimination(
+        n,
+        m,
+        starts,
+        vars,
+        constants,
+        solution,
+        numbers,
+        words,
+    );
+    built.answer
+}
+
 fn by_sparse(
     tally: &mut [u64; 79],
     n: usize,
@@ -109,17 +134,7 @@ fn by_sparse(
 ) -> Answer
     requires { ⌜ (n ≤ 16384) × (m ≤ 16384) ⌝ }
 {
-    mark(solution, numbers, words);
-    let answer = sparse::gaussian_elimination(
-        n,
-        m,
-        starts,
-        vars,
-        constants,
-        solution,
-        numbers,
-        words,
-    );
+    let answer = solve_sparse(n, m, starts, vars, constants, solution, numbers, words);
     let room = answers::sparse_numbers(n, m);
     left(tally, SPARSE, answer, solution, numbers, room, words, m);
     checked_if_solved(tally, answer, n, m, starts, vars, constants, solution);
@@ -138,7 +153,17 @@ fn solve_lazy(
     words: &mut [u64],
 ) -> Answer {
     mark(solution, numbers, words);
-    lazy_calls::lazy_gaussian_elimination(n, m, starts, vars, constants, solution, numbers, words)
+    let built = lazy_calls::lazy_gaussian_elimination(
+        n,
+        m,
+        starts,
+        vars,
+        constants,
+        solution,
+        numbers,
+        words,
+    );
+    built.answer
 }
 
 fn by_lazy(

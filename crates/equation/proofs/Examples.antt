@@ -2,22 +2,24 @@
 use mathlib.Core.Path.{_≡_, refl}
 use mathlib.Core.List.{List, [], _∷_}
 use Prim.Native.Nat.{ℕ}
-use Rattle.gf2.specs.Equation.{symDiff}
+use Rattle.gf2.specs.Equation.{symDiff, lists}
+use Rattle.gf2.specs.NumberLists.{count, one}
 use Rattle.areas.specs.Stretch.{put}
 use Rattle.areas.specs.Rows.{padded}
 use Rattle.answers.specs.declared.Answer.the-variants.{Solved, BadEntry, ShortArea}
 use Rattle.equation.specs.Increase.{rises, risesFrom}
 use Rattle.equation.specs.Sums.{sumCall, refusedSum}
+use Rattle.gf2.specs.Common.{common}
 
 -- {1,3,5} plus {3,4} is {1,4,5}; zeros up to five, and what lies past them is unchanged
 pub plus : sumCall (1 ∷ 3 ∷ 5 ∷ []) (3 ∷ 4 ∷ []) 6 5 (9 ∷ 9 ∷ 9 ∷ 9 ∷ 9 ∷ 9 ∷ [])
-    ≡ record { result = record { answer = Solved; len = 3; constant = 3 }; out = 1 ∷ 4 ∷ 5 ∷ 0 ∷ 0 ∷ 9 ∷ [] }
-unfolding sumCall rises risesFrom symDiff put padded
+    ≡ record { result = record { answer = Solved; len = 3; constant = 3; cancelled = 1 }; out = 1 ∷ 4 ∷ 5 ∷ 0 ∷ 0 ∷ 9 ∷ [] }
+unfolding sumCall rises risesFrom symDiff put padded common count one lists
 plus = refl
 
 -- a list plus itself is empty
-pub itself : sumCall (2 ∷ 7 ∷ []) (2 ∷ 7 ∷ []) 4 4 (9 ∷ 9 ∷ 9 ∷ 9 ∷ []) ≡ record { result = record { answer = Solved; len = 0; constant = 0 }; out = 0 ∷ 0 ∷ 0 ∷ 0 ∷ [] }
-unfolding sumCall rises risesFrom symDiff put padded
+pub itself : sumCall (2 ∷ 7 ∷ []) (2 ∷ 7 ∷ []) 4 4 (9 ∷ 9 ∷ 9 ∷ 9 ∷ []) ≡ record { result = record { answer = Solved; len = 0; constant = 0; cancelled = 2 }; out = 0 ∷ 0 ∷ 0 ∷ 0 ∷ [] }
+unfolding sumCall rises risesFrom symDiff put padded common count one lists
 itself = refl
 
 -- neither list increases and `out` is short: place 0

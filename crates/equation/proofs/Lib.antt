@@ -2,6 +2,5 @@ pub mod Rise
 pub mod Turn
 pub mod Gather
 pub mod Settle
-pub mod Cancelled
 pub mod Meaning
 pub mod Examples

@@ -1,13 +1,16 @@
--- What the sum means: it is the sum of the two equations, and is met exactly where they agree.
+-- What the sum means: it is the sum of the two equations, is met exactly where they agree, and tells how many variables both had.
 use mathlib.Core.Path.{_≡_, sym, ap, _∙_, subst}
-use mathlib.Core.Logic.{_↔_}
+use mathlib.Core.Logic.{_↔_, _≢_}
+use mathlib.Core.Bool.{Bool, true, false, _&&_}
 use mathlib.Core.List.{List}
 use Prim.Native.Nat.{ℕ, _+_, _≤_, _<_}
 use native.Mathlib.Omega.{arith}
 use borrow.Author.Tests.{le-leb, lt-leb}
 use lib.ListN.{length}
+use lib.Dec.{leb}
 use lib.Bits.{bitXor}
 use Rattle.gf2.specs.Equation.{Equation, eqn, Increasing, Meets, symDiff, sum}
+use Rattle.gf2.specs.Common.{common}
 use Rattle.gf2.proofs.Sums.{meets-sum, meets-other}
 use Rattle.gf2.proofs.SymDiff.{length-symDiff-le}
 use Rattle.areas.specs.Stretch.{stretch}
@@ -15,7 +18,11 @@ use Rattle.areas.specs.Rows.{padded}
 use Rattle.areas.proofs.Stretch.{stretch-put-within}
 use Rattle.areas.proofs.Rows.{length-padded, stretch-padded}
 use Rattle.answers.specs.Sizes.{maxListed}
-use Rattle.answers.specs.declared.Answer.the-variants.{TooLarge}
+use Rattle.answers.specs.Numbers.{numberOf}
+use Rattle.answers.specs.Calls.{pick}
+use Rattle.answers.specs.declared.Answer.{Answer}
+use Rattle.answers.specs.declared.Answer.the-variants.{Solved, TooLarge, BadEntry, ShortArea}
+use Rattle.equation.specs.Increase.{rises}
 use Rattle.equation.specs.Sums.{SumCall, sumCall, madeSum, refusedSum}
 use Rattle.equation.proofs.Rise.{increasing-rises}
 
@@ -49,3 +56,28 @@ pub sumCall-meets : (x l r : List ℕ) (lc rc : ℕ) (out : List ℕ) → length
 sumCall-meets x l r lc rc out hl hr il ir room h =
     let e : summedEquation (sumCall l r lc rc out) ≡ sum (eqn l lc) (eqn r rc) = ap summedEquation (sum-made l r lc rc out hl hr il ir room) ∙ sum-is-sum l r lc rc out room in
     subst (λ (q : Equation). Meets x q ↔ Meets x (eqn r rc)) (sym e) ((λ k. meets-other x (eqn l lc) (eqn r rc) h k), (λ k. meets-sum x (eqn l lc) (eqn r rc) h k))
+
+-- 0: how many variables stood in both lists; after a refusal none is told
+pub data TellsCommon (l r : List ℕ) : Answer → ℕ → Type 0 where
+  of-both : TellsCommon l r Solved (common l r)
+  of-none : {answer : Answer} → answer ≢ Solved → TellsCommon l r answer 0
+
+abbrev Tells : List ℕ → List ℕ → SumCall → Type 0
+Tells l r call = TellsCommon l r (call .result .answer) (call .result .cancelled)
+
+pub sum-common : (l r : List ℕ) (lc rc : ℕ) (out : List ℕ) → Tells l r (sumCall l r lc rc out)
+unfolding sumCall
+sum-common l r lc rc out =
+    either (leb (length l) maxListed && leb (length r) maxListed) _ _
+    (either (rises l) _ _
+    (either (rises r) _ _ (either (leb (length l + length r) (length out)) (madeSum l r lc rc out) _ of-both (refused ShortArea (omega arith)))
+    (refused (BadEntry 1) (omega arith)))
+    (refused (BadEntry 0) (omega arith)))
+    (refused TooLarge (omega arith))
+  where
+    either : (t : Bool) (a b : SumCall) → Tells l r a → Tells l r b → Tells l r (pick t a b)
+    either true a b p q = p
+    either false a b p q = q
+
+    refused : (answer : Answer) → 1 ≤ numberOf answer → Tells l r (refusedSum answer out)
+    refused answer h = of-none (λ e. let z : numberOf answer ≡ 0 = ap numberOf e in absurd (omega arith))

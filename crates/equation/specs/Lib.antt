@@ -1,4 +1,3 @@
 pub mod Increase
 pub mod Merging
 pub mod Sums
-pub mod Common

@@ -14,14 +14,15 @@ use Rattle.answers.specs.declared.Answer.{Answer}
 use Rattle.answers.specs.declared.Answer.the-variants.{Solved, TooLarge, BadEntry, ShortArea}
 use Rattle.equation.specs.declared.Summed.{Summed}
 use Rattle.equation.specs.Increase.{rises}
+use Rattle.gf2.specs.Common.{common}
 
 pub record SumCall : Type 0 where
   pub result : Summed
   pub out : List ℕ
 
--- a refused sum hands back length 0 and constant 0
+-- a refused sum hands back length 0, constant 0 and 0 cancelled
 abbrev pub failed : Answer → Summed
-failed answer = record { answer = answer; len = 0; constant = 0 }
+failed answer = record { answer = answer; len = 0; constant = 0; cancelled = 0 }
 
 -- .. and writes nothing
 abbrev pub refusedSum : Answer → List ℕ → SumCall
@@ -31,7 +32,7 @@ refusedSum answer out = record { result = failed answer; out = out }
 abbrev pub madeSum : List ℕ → List ℕ → ℕ → ℕ → List ℕ → SumCall
 madeSum l r lc rc out =
     record {
-      result = record { answer = Solved; len = length (symDiff l r); constant = bitXor lc rc };
+      result = record { answer = Solved; len = length (symDiff l r); constant = bitXor lc rc; cancelled = common l r };
       out = put 0 (padded (length l + length r) (symDiff l r)) out;
     }
 

@@ -10,6 +10,8 @@ pub struct Summed {
     pub answer: Answer,
     pub len: usize,
     pub constant: u64,
+    // How many variables stood in both lists.
+    pub cancelled: usize,
 }
 
 // The sum of two equations, written into `out`.
@@ -38,6 +40,7 @@ pub fn sum(left: &[u32], right: &[u32], left_c: u64, right_c: u64, out: &mut [u3
         answer: Answer::Solved,
         len,
         constant: left_c ^ right_c,
+        cancelled: (left.len() + right.len() - len) / 2,
     }
 }
 
@@ -49,5 +52,6 @@ fn refusal(answer: Answer) -> Summed
         answer,
         len: 0,
         constant: 0,
+        cancelled: 0,
     }
 }

@@ -15,13 +15,14 @@ pub tells : {c : Call} {answer : Answer} {number place : ℕ} {solution numbers 
 tells a s n w e f = record { number-is = e ∙ ap numberOf a; place-is = f ∙ ap placeOf a; solution-is = s; numbers-are = n; words-are = w }
 
 pub tells-sum : {c : SumCall} {summed : Summed} {number place : ℕ} {out : List ℕ} → summed ≡ c .result → out ≡ c .out
-    → number ≡ numberOf (summed .answer) → place ≡ placeOf (summed .answer) → TellsSum c number place (summed .len) (summed .constant) out
+    → number ≡ numberOf (summed .answer) → place ≡ placeOf (summed .answer) → TellsSum c number place (summed .len) (summed .constant) (summed .cancelled) out
 tells-sum s o e f =
     record {
       number-is = e ∙ ap (λ (t : Summed). numberOf (t .answer)) s;
       place-is = f ∙ ap (λ (t : Summed). placeOf (t .answer)) s;
       len-is = ap (λ (t : Summed). t .len) s;
       constant-is = ap (λ (t : Summed). t .constant) s;
+      cancelled-is = ap (λ (t : Summed). t .cancelled) s;
       out-is = o;
     }
 

@@ -18,11 +18,12 @@ pub record Tells (c : Call) (number place : ℕ) (solution numbers words : List 
   pub words-are : words ≡ c .words
 
 -- the same of a sum
-pub record TellsSum (c : SumCall) (number place len constant : ℕ) (out : List ℕ) : Type 0 where
+pub record TellsSum (c : SumCall) (number place len constant cancelled : ℕ) (out : List ℕ) : Type 0 where
   pub number-is : number ≡ numberOf (c .result .answer)
   pub place-is : place ≡ placeOf (c .result .answer)
   pub len-is : len ≡ c .result .len
   pub constant-is : constant ≡ c .result .constant
+  pub cancelled-is : cancelled ≡ c .result .cancelled
   pub out-is : out ≡ c .out
 
 -- `check`: a refusal's own number, 0 for yes and 6 for no

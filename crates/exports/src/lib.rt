@@ -7,6 +7,9 @@ ghost use mathlib.Core.Path.{_≡_};
 ghost use Rattle.answers.specs.Numbers.{numberOf, placeOf};
 ghost use Rattle.equation.specs.Sums.{sumCall};
 ghost use Rattle.system_check.specs.CheckCall.{checkCall};
+ghost use Rattle.answers.specs.Reported.{reported};
+ghost use Rattle.system.specs.System.{equations};
+ghost use Rattle.sparse_rules.specs.Cancelled.{sparseCancels};
 ghost use Rattle.sparse_rules.specs.SparseCall.{sparseCall};
 ghost use Rattle.dense.specs.Call.{denseCall};
 ghost use Rattle.exports.specs.Told.{Tells, TellsSum, toldNumber, toldPlace};
@@ -20,7 +23,7 @@ fn tell(answer: Answer, place: &mut usize) -> u32
     answer.number()
 }
 
-// `equation::sum`; length and constant of the sum are written through `len` and `constant`.
+// `equation::sum`; the sum's length and constant go through `len` and `constant`, how many variables both lists had through `cancelled`.
 #[no_mangle]
 pub extern "C" fn orohkaril_sum(
     left: &[u32],
@@ -30,13 +33,15 @@ pub extern "C" fn orohkaril_sum(
     out: &mut [u32],
     len: &mut usize,
     constant: &mut u64,
+    cancelled: &mut usize,
     place: &mut usize,
 ) -> u32
-    ensures { λ r. ⌜ TellsSum (sumCall (now (left .entry)) (now (right .entry)) «left_c» «right_c» (now (out .entry))) r (now (place .exit)) (now (len .exit)) (now (constant .exit)) (now (out .exit)) ⌝ }
+    ensures { λ r. ⌜ TellsSum (sumCall (now (left .entry)) (now (right .entry)) «left_c» «right_c» (now (out .entry))) r (now (place .exit)) (now (len .exit)) (now (constant .exit)) (now (cancelled .exit)) (now (out .exit)) ⌝ }
 {
     let summed = equation::sum(left, right, left_c, right_c, out);
     *len = summed.len;
     *constant = summed.constant;
+    *cancelled = summed.cancelled;
     let answer = summed.answer;
     tell(answer, place)
 }
@@ -62,7 +67,7 @@ pub extern "C" fn orohkaril_check(
     }
 }
 
-// `sparse::gaussian_elimination`.
+// `sparse::gaussian_elimination`; how many variables cancelled is written through `cancelled`.
 #[no_mangle]
 pub extern "C" fn orohkaril_sparse(
     n: usize,
@@ -73,11 +78,13 @@ pub extern "C" fn orohkaril_sparse(
     solution: &mut [u64],
     numbers: &mut [u32],
     words: &mut [u64],
+    cancelled: &mut u64,
     place: &mut usize,
 ) -> u32
     ensures { λ r. ⌜ Tells (sparseCall n m (now (starts .entry)) (now (vars .entry)) (now (constants .entry)) (now (solution .entry)) (now (numbers .entry)) (now (words .entry))) r (now (place .exit)) (now (solution .exit)) (now (numbers .exit)) (now (words .exit)) ⌝ }
+    ensures { λ _. ⌜ now (cancelled .exit) ≡ reported (sparseCall n m (now (starts .entry)) (now (vars .entry)) (now (constants .entry)) (now (solution .entry)) (now (numbers .entry)) (now (words .entry)) .answer) (sparseCancels (equations m (now (starts .entry)) (now (vars .entry)) (now (constants .entry)))) ⌝ }
 {
-    let answer = sparse::gaussian_elimination(
+    let built = sparse::gaussian_elimination(
         n,
         m,
         starts,
@@ -87,6 +94,8 @@ pub extern "C" fn orohkaril_sparse(
         numbers,
         words,
     );
+    *cancelled = built.cancelled;
+    let answer = built.answer;
     tell(answer, place)
 }
 

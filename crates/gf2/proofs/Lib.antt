@@ -8,6 +8,8 @@ pub mod Order
 pub mod Members
 pub mod Selecting
 pub mod Counting
+pub mod Common
+pub mod Tally
 pub mod Values
 pub mod Spans
 pub mod OurCells

@@ -4,4 +4,5 @@ pub mod Canonical
 pub mod Ours
 pub mod Result
 pub mod NumberLists
+pub mod Common
 pub mod ByNumber

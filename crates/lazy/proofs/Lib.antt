@@ -14,6 +14,7 @@ pub mod Room
 pub mod Tables
 pub mod Ranks
 pub mod Turns
+pub mod Cancelled
 pub mod NeverEmpty
 pub mod Shares
 pub mod Isolated

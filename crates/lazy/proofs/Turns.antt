@@ -1,14 +1,15 @@
--- However the units are cut, the build is the same.
+-- However the units are cut, the build is the same, and so are its counts.
 use mathlib.Core.Path.{_≡_, refl, sym, ap, _∙_}
 use mathlib.Core.Logic.{_⊎_, inl, inr}
 use mathlib.Core.List.{List}
 use Prim.Native.Nat.{ℕ, zero, suc, _+_, _≤_}
 use native.Mathlib.Omega.{arith}
-use native.Mathlib.Nat.{suc-add, zero-add}
+use native.Mathlib.Nat.{add-assoc, suc-add, zero-add}
 use lib.ListN.{length}
 use Rattle.gf2.specs.Equation.{Equation}
 use Rattle.gf2.specs.Result.{Result}
 use Rattle.lazy.specs.Lazy.{Build, more, ended, unit, after, start, wholeRun, used}
+use Rattle.lazy.specs.Cancelled.{unitCancels, afterCancels}
 
 module _ (n : ℕ) (sys : List Equation) where
   pub after-end : (k : ℕ) (r : Result (List ℕ)) → after k n sys (ended r) ≡ ended r
@@ -35,6 +36,20 @@ module _ (n : ℕ) (sys : List Equation) where
       ap (λ i. used i n sys (more s)) (suc-add j k) ∙ ap suc (used-add j k (unit n sys s))
       ∙ sym (suc-add (used j n sys (unit n sys s)) (used k n sys (after j n sys (unit n sys s))))
   used-add (suc j) k (ended r) = used-end (suc j + k) r ∙ sym (used-end k r) ∙ sym (zero-add (used k n sys (ended r)))
+
+  pub cancels-end : (k : ℕ) (r : Result (List ℕ)) → afterCancels k n sys (ended r) ≡ 0
+  unfolding afterCancels
+  cancels-end zero r = refl
+  cancels-end (suc k) r = refl
+
+  -- what two turns cancel adds up
+  pub cancels-add : (j k : ℕ) (b : Build) → afterCancels (j + k) n sys b ≡ afterCancels j n sys b + afterCancels k n sys (after j n sys b)
+  unfolding after afterCancels
+  cancels-add zero k b = ap (λ i. afterCancels i n sys b) (zero-add k) ∙ sym (zero-add (afterCancels k n sys b))
+  cancels-add (suc j) k (more s) =
+      ap (λ i. afterCancels i n sys (more s)) (suc-add j k) ∙ ap (λ (c : ℕ). unitCancels sys s + c) (cancels-add j k (unit n sys s))
+      ∙ sym (add-assoc (unitCancels sys s) (afterCancels j n sys (unit n sys s)) (afterCancels k n sys (after j n sys (unit n sys s))))
+  cancels-add (suc j) k (ended r) = cancels-end (suc j + k) r ∙ sym (cancels-end k r) ∙ sym (zero-add (afterCancels k n sys (ended r)))
 
   pub used-le : (k : ℕ) (b : Build) → used k n sys b ≤ k
   unfolding used

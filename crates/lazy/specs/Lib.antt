@@ -1,4 +1,5 @@
 pub mod Lazy
+pub mod Cancelled
 pub mod Invariant
 pub mod Description
 pub mod Rank

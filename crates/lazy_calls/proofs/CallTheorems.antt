@@ -1,19 +1,25 @@
--- The theorems of lazy elimination, of its public call: what the solution slice holds after 0, and when the answer is 6.
+-- The theorems of lazy elimination, of its public call: what the solution slice holds after 0, when the answer is 6, and what is told of the sums.
 use mathlib.Core.Path.{_≡_}
 use mathlib.Core.Logic.{_↔_}
 use mathlib.Core.Bool.{Bool, true}
 use mathlib.Core.List.{List}
-use Prim.Native.Nat.{ℕ, _<_, _^_}
+use Prim.Native.Nat.{ℕ, _+_, _*_, _≤_, _<_, _^_}
 use lib.ListN.{length, getD}
 use Rattle.gf2.specs.Equation.{Each, MeetsAll}
 use Rattle.gf2.specs.Span.{Cancels}
 use Rattle.gf2.specs.Ours.{Apart, ourPart}
 use Rattle.answers.specs.Calls.{Call}
-use Rattle.answers.specs.Sizes.{lazyNumbers, lazyWords}
+use Rattle.answers.specs.Reported.{reported}
+use Rattle.answers.specs.Sizes.{maxVariables, maxEquations, lazyNumbers, lazyWords}
 use Rattle.answers.specs.declared.Answer.the-variants.{Solved, Unsolvable}
+use Rattle.answers.proofs.Reported.{Reports, call-reports, call-reports-le}
+use Rattle.system.specs.System.{systemRules}
+use Rattle.system.proofs.Soundness.{kept-sound, rules-early}
 use Rattle.system.proofs.SolverCalls.{Lent, system, Runs, call-solves, call-exact, call-narrow, call-isolated}
 use Rattle.lazy.specs.Lazy.{lazyElimination}
-use Rattle.lazy.proofs.Theorems.{lazy-solves, lazy-exact, lazy-narrow, lazy-isolated}
+use Rattle.lazy.specs.Cancelled.{lazyCancels}
+use Rattle.lazy.proofs.Cancelled.{lazy-fits}
+use Rattle.lazy.proofs.Theorems.{lent, lazy-solves, lazy-exact, lazy-narrow, lazy-isolated}
 use Rattle.lazy_calls.specs.LazyCall.{lazyCall}
 
 abbrev wordsRoom : ℕ → ℕ → ℕ → ℕ
@@ -43,3 +49,24 @@ pub lazyCall-isolated : (P : ℕ → Bool) (n : ℕ) (a b : Lent) → Apart P (s
     → lazyOn n a .answer ≡ Solved → lazyOn n b .answer ≡ Solved → (v : ℕ) → P v ≡ true → getD (lazyOn n a .solution) v 0 ≡ getD (lazyOn n b .solution) v 0
 unfolding lazyCall
 lazyCall-isolated P n a b = call-isolated lazyElimination lazyNumbers wordsRoom lazy-solves lazy-exact lazy-narrow lazy-isolated P n a b
+
+-- what the call on what is lent tells of its sums
+abbrev pub lazyTold : ℕ → Lent → ℕ
+lazyTold n l = reported (lazyOn n l .answer) (lazyCancels n (system l))
+
+-- 0 after 1 to 5; after 0 and 6 how many variables cancelled in the sums of the rules' own units, the dense part's with them
+pub lazy-cancelled : (n : ℕ) (l : Lent) → Reports (lazyCancels n (system l)) (lazyOn n l .answer) (lazyTold n l)
+unfolding lazyCall
+lazy-cancelled n l =
+    call-reports n (lazyNumbers n (l .m) (length (l .vars))) (lazyWords (l .m)) (lazyElimination n (system l)) (l .solution) (l .numbers) (l .words) (lazyCancels n (system l))
+    (systemRules n (l .m) (l .starts) (l .vars) (l .constants)) (rules-early n (l .m) (l .starts) (l .vars) (l .constants))
+
+-- .. and 64 bits hold it
+pub lazy-cancelled-fits : (n : ℕ) (l : Lent) → lazyTold n l ≤ (maxEquations + maxEquations + maxVariables + 1) * (maxEquations * maxVariables)
+unfolding lazyCall
+lazy-cancelled-fits n l =
+    call-reports-le n (lazyNumbers n (l .m) (length (l .vars))) (lazyWords (l .m)) (lazyElimination n (system l)) (l .solution) (l .numbers) (l .words) (lazyCancels n (system l))
+    (systemRules n (l .m) (l .starts) (l .vars) (l .constants)) (rules-early n (l .m) (l .starts) (l .vars) (l .constants))
+    (λ kept.
+    let f = kept-sound n (l .m) (l .starts) (l .vars) (l .constants) kept in
+    lazy-fits n (system l) (lent n (system l) (f .sorted) (f .below)) (f .few-variables) (rw (f .many) (f .few-equations)))

@@ -11,6 +11,7 @@ use Rattle.system.specs.System.{equations}
 use Rattle.lazy.specs.Lazy.{State, more, after, answerOf, start, enough, wholeRun, lazyElimination}
 use Rattle.lazy.proofs.AtStart.{start-inv, start-variables}
 use Rattle.lazy.proofs.Theorems.{lent}
+use Rattle.lazy.specs.Cancelled.{lazyCancels}
 use Rattle.lazy_setup.specs.declared.Layout.{Layout}
 use Rattle.lazy_setup.specs.declared.Stand.{Stand}
 use Rattle.lazy_setup.specs.Area.{listsFrom, numbersOf, wordsOf}
@@ -21,7 +22,7 @@ use Rattle.lazy_pops.specs.declared.Step.{Step}
 use Rattle.lazy_pops.specs.Laid.{Laid, listed}
 use Rattle.lazy_units.specs.Units.{Stands, left, Over}
 use Rattle.lazy_units.specs.Ending.{UnitAt}
-use Rattle.lazy_units.specs.Running.{Ran}
+use Rattle.lazy_units.specs.Running.{Ran, RanCount}
 use Rattle.lazy_units.proofs.UnitCases.{inv-fit}
 
 module _ {n m : ℕ} {starts vars constants : List ℕ} (f : Fits n m starts vars constants) where
@@ -62,3 +63,8 @@ module _ {n m : ℕ} {starts vars constants : List ℕ} (f : Fits n m starts var
       → Ran n m layout stand numbers words solution solution′ numbers′ r → Over (lazyElimination n sys) r solution solution′
   unfolding lazyElimination wholeRun
   built solution′ numbers′ r a q = q sys (start n sys) a .1 (enough n sys) start-left
+
+  pub built-count : {stand : Stand} {layout : Layout} {numbers words solution : List ℕ} {t : ℕ} → UnitAt n m layout sys (start n sys) stand numbers words solution
+      → RanCount n m layout stand numbers words solution t → t ≡ lazyCancels n sys
+  unfolding lazyCancels
+  built-count a q = q sys (start n sys) a (enough n sys) start-left

@@ -1,14 +1,18 @@
 // The call of lazy elimination: its set-up, its units, and zeros at the end.
 use answers::Answer;
+use answers::Built;
 use answers::Rules;
 
 mod sweeping;
 mod whole;
 
 ghost use mathlib.Core.Path.{_≡_};
+ghost use Rattle.answers.specs.Reported.{reported};
+ghost use Rattle.system.specs.System.{equations};
+ghost use Rattle.lazy.specs.Cancelled.{lazyCancels};
 ghost use Rattle.lazy_calls.specs.LazyCall.{lazyCall};
 
-// Solves a sparse system of `m` equations in `n` variables by lazy elimination.
+// Solves a sparse system of `m` equations in `n` variables by lazy elimination. Tells how many variables cancelled in its sums.
 pub fn lazy_gaussian_elimination(
     n: usize,
     m: usize,
@@ -18,23 +22,24 @@ pub fn lazy_gaussian_elimination(
     solution: &mut [u64],
     numbers: &mut [u32],
     words: &mut [u64],
-) -> Answer
-    ensures { λ r. ⌜ r ≡ lazyCall n m (now (starts .entry)) (now (vars .entry)) (now (constants .entry)) (now (solution .entry)) (now (numbers .entry)) (now (words .entry)) .answer ⌝ }
+) -> Built
+    ensures { λ r. ⌜ r .answer ≡ lazyCall n m (now (starts .entry)) (now (vars .entry)) (now (constants .entry)) (now (solution .entry)) (now (numbers .entry)) (now (words .entry)) .answer ⌝ }
     ensures { λ _. ⌜ now (solution .exit) ≡ lazyCall n m (now (starts .entry)) (now (vars .entry)) (now (constants .entry)) (now (solution .entry)) (now (numbers .entry)) (now (words .entry)) .solution ⌝ }
     ensures { λ _. ⌜ now (numbers .exit) ≡ lazyCall n m (now (starts .entry)) (now (vars .entry)) (now (constants .entry)) (now (solution .entry)) (now (numbers .entry)) (now (words .entry)) .numbers ⌝ }
     ensures { λ _. ⌜ now (words .exit) ≡ lazyCall n m (now (starts .entry)) (now (vars .entry)) (now (constants .entry)) (now (solution .entry)) (now (numbers .entry)) (now (words .entry)) .words ⌝ }
+    ensures { λ r. ⌜ r .cancelled ≡ reported (lazyCall n m (now (starts .entry)) (now (vars .entry)) (now (constants .entry)) (now (solution .entry)) (now (numbers .entry)) (now (words .entry)) .answer) (lazyCancels n (equations m (now (starts .entry)) (now (vars .entry)) (now (constants .entry)))) ⌝ }
 {
     match system::rules(n, m, starts, vars, constants) {
-        Rules::Broken(answer) => answer,
+        Rules::Broken(answer) => Built::refused(answer),
         Rules::Kept => {
             if solution.len() != n {
-                return Answer::WrongSolution;
+                return Built::refused(Answer::WrongSolution);
             }
             if numbers.len() < answers::lazy_numbers(n, m, vars.len()) {
-                return Answer::ShortArea;
+                return Built::refused(Answer::ShortArea);
             }
             if words.len() < answers::lazy_words(m) {
-                return Answer::ShortArea;
+                return Built::refused(Answer::ShortArea);
             }
             whole::run(n, m, starts, vars, constants, solution, numbers, words)
         }

@@ -1,6 +1,8 @@
 // The whole run on lent areas: set-up, units, zeros.
 use crate::sweeping::sweep;
 use answers::Answer;
+use answers::Built;
+use lazy_pops::CountedStep;
 use lazy_pops::Step;
 use lazy_setup::Layout;
 use lazy_setup::setup;
@@ -10,6 +12,8 @@ ghost use Prim.Native.Nat.{_≤_};
 ghost use lib.ListN.{length, replicate};
 ghost use Rattle.answers.specs.Sizes.{lazyNumbers, lazyWords};
 ghost use Rattle.system.specs.Fits.{Fits};
+ghost use Rattle.system.specs.System.{equations};
+ghost use Rattle.lazy.specs.Cancelled.{lazyCancels};
 ghost use Rattle.lazy_calls.specs.LazyCall.{lazyRan, lazyAnswer};
 ghost use Rattle.lazy_units.specs.Units.{Over};
 
@@ -23,11 +27,12 @@ fn build(
     solution: &mut [u64],
     numbers: &mut [u32],
     words: &mut [u64],
-) -> Step
+) -> CountedStep
     requires { ⌜ Fits n m (now starts) (now vars) (now constants) × (length (now solution) ≡ n) × (length (now numbers) ≡ lazyNumbers n m (length (now vars))) × (length (now words) ≡ lazyWords m) ⌝ }
-    ensures { λ r. ⌜ Over (lazyAnswer n m (now (starts .entry)) (now (vars .entry)) (now (constants .entry))) r (now (solution .entry)) (now (solution .exit)) ⌝ }
+    ensures { λ r. ⌜ Over (lazyAnswer n m (now (starts .entry)) (now (vars .entry)) (now (constants .entry))) (r .step) (now (solution .entry)) (now (solution .exit)) ⌝ }
     ensures { λ _. ⌜ now (numbers .exit) ≡ replicate (length (now (numbers .entry))) 0 ⌝ }
     ensures { λ _. ⌜ now (words .exit) ≡ replicate (length (now (words .entry))) 0 ⌝ }
+    ensures { λ r. ⌜ r .cancelled ≡ lazyCancels n (equations m (now (starts .entry)) (now (vars .entry)) (now (constants .entry))) ⌝ }
 {
     let stand = setup(n, m, starts, vars, constants, numbers, words);
     let layout = Layout::of(n, m, vars.len());
@@ -47,16 +52,17 @@ pub fn run(
     solution: &mut [u64],
     numbers: &mut [u32],
     words: &mut [u64],
-) -> Answer
+) -> Built
     requires { ⌜ Fits n m (now starts) (now vars) (now constants) × (length (now solution) ≡ n) × (lazyNumbers n m (length (now vars)) ≤ length (now numbers)) × (lazyWords m ≤ length (now words)) ⌝ }
-    ensures { λ r. ⌜ r ≡ lazyRan n m (now (starts .entry)) (now (vars .entry)) (now (constants .entry)) (now (solution .entry)) (now (numbers .entry)) (now (words .entry)) .answer ⌝ }
+    ensures { λ r. ⌜ r .answer ≡ lazyRan n m (now (starts .entry)) (now (vars .entry)) (now (constants .entry)) (now (solution .entry)) (now (numbers .entry)) (now (words .entry)) .answer ⌝ }
     ensures { λ _. ⌜ now (solution .exit) ≡ lazyRan n m (now (starts .entry)) (now (vars .entry)) (now (constants .entry)) (now (solution .entry)) (now (numbers .entry)) (now (words .entry)) .solution ⌝ }
     ensures { λ _. ⌜ now (numbers .exit) ≡ lazyRan n m (now (starts .entry)) (now (vars .entry)) (now (constants .entry)) (now (solution .entry)) (now (numbers .entry)) (now (words .entry)) .numbers ⌝ }
     ensures { λ _. ⌜ now (words .exit) ≡ lazyRan n m (now (starts .entry)) (now (vars .entry)) (now (constants .entry)) (now (solution .entry)) (now (numbers .entry)) (now (words .entry)) .words ⌝ }
+    ensures { λ r. ⌜ r .cancelled ≡ lazyCancels n (equations m (now (starts .entry)) (now (vars .entry)) (now (constants .entry))) ⌝ }
 {
     let kn = answers::lazy_numbers(n, m, vars.len());
     let kw = answers::lazy_words(m);
-    let end = build(
+    let built = build(
         n,
         m,
         starts,
@@ -66,9 +72,20 @@ pub fn run(
         &mut numbers[..kn],
         &mut words[..kw],
     );
+    let cancelled = built.cancelled;
+    let end = built.step;
     match end {
-        Step::Solved => Answer::Solved,
-        Step::Unsolvable => Answer::Unsolvable,
-        Step::More(_) => Answer::Unsolvable,
+        Step::Solved => Built {
+            answer: Answer::Solved,
+            cancelled,
+        },
+        Step::Unsolvable => Built {
+            answer: Answer::Unsolvable,
+            cancelled,
+        },
+        Step::More(_) => Built {
+            answer: Answer::Unsolvable,
+            cancelled,
+        },
     }
 }

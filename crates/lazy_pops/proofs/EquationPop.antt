@@ -12,7 +12,8 @@ use Rattle.gf2.specs.ByNumber.{rowOf}
 use Rattle.gf2.specs.Result.{Result, unsolvable, ok}
 use Rattle.gf2.proofs.Members.{head-listed}
 use Rattle.lazy.specs.Invariant.{Lent, Inv, StackInv}
-use Rattle.lazy.specs.Lazy.{State, skip, activate, passOver, solveFor, popDense, popVariable, pop}
+use Rattle.lazy.specs.Cancelled.{addedCancels, popCancels}
+use Rattle.lazy.specs.Lazy.{State, others, skip, activate, passOver, solveFor, popDense, popVariable, pop}
 use Rattle.lazy.specs.Safe.{pivotOf}
 use Rattle.lazy.proofs.Pops.{some-variable}
 use Rattle.lazy_setup.specs.declared.Layout.{Layout}
@@ -24,7 +25,7 @@ use Rattle.lazy_pops.specs.declared.Step.the-variants.{More, Solved, Uns
 use Rattle.lazy_pops.specs.Laid.{Laid}
 use Rattle.lazy_pops.specs.Pops.{Shows, Popping, VariableAt, EquationAt, SolveDone, PopAt, After}
 use Rattle.lazy_pops.proofs.Places.{Places, places}
-use Rattle.lazy_pops.proofs.PopCases.{equation-dense, equation-solve, pop-first, pop-then}
+use Rattle.lazy_pops.proofs.PopCases.{equation-dense, equation-solve, pop-first, pop-then, count-none, count-dense, count-solve}
 use Rattle.lazy_pops.proofs.Reading.{read-equation, read-priority}
 use Rattle.lazy_pops.proofs.Writing.{pop-equation}
 
@@ -175,11 +176,22 @@ module _ {n m : ℕ} {layout : Layout} {sys : List Equation} {s : State} {stand 
         ap (λ (x : ℕ). ok (solveFor sys (pivotOf s x) x es s)) e-is ∙ sym (pop-first sys e es s next ∙ equation-solve sys e es s (is-one z)) in
         subst (λ (x : Result State). After n m layout sys x (More r) numbers′ words′) k (q .shows, q .words-are)
 
+    -- what cancelled: nothing where the equation goes to the dense part, else in the sums that solve its variable
+    pub dense-count : getD (set numbers last 0) (layout .priority + getD numbers last 0) 0 ≡ 0 → 0 ≡ popCancels sys s
+    dense-count z = sym (count-dense sys e es s next (sym priority-is ∙ z))
+
+    pub solve-count : {t : ℕ} → getD (set numbers last 0) (layout .priority + getD numbers last 0) 0 ≢ 0
+        → t ≡ addedCancels (others sys (pivotOf s (getD numbers last 0)) (getD numbers last 0)) (getD numbers last 0) (s .rows) → t ≡ popCancels sys s
+    solve-count z q = q ∙ ap (λ (x : ℕ). addedCancels (others sys (pivotOf s x) x) x (s .rows)) e-is ∙ sym (count-solve sys e es s next (is-one z))
+
   -- ---- the variable list
 
   module _ (h : stand .equations ≡ 0) where
     none : s .equations ≡ []
     none = empty (s .equations) (sym equations-are ∙ h)
+
+    pub variable-count : 0 ≡ popCancels sys s
+    variable-count = sym (count-none sys s none)
 
     pub first-variable : Headed (s .variables)
     first-variable = headed (s .variables) (some-listed (some-variable n sys (a .popping .lent) s (a .popping .inv) none (a .popping .some)))

@@ -1,5 +1,5 @@
 -- The cases of a pop.
-use mathlib.Core.Path.{_≡_, refl, sym, subst}
+use mathlib.Core.Path.{_≡_, refl, sym, ap, subst}
 use mathlib.Core.List.{List, [], _∷_}
 use Prim.Native.Nat.{ℕ, zero, suc}
 use native.Mathlib.Omega.{arith}
@@ -8,7 +8,8 @@ use Rattle.gf2.specs.Equation.{Equation}
 use Rattle.gf2.specs.ByNumber.{rowOf}
 use Rattle.gf2.specs.NumberLists.{firstOf}
 use Rattle.gf2.specs.Result.{Result, unsolvable, ok}
-use Rattle.lazy.specs.Lazy.{State, isIdle, passOver, solveFor, popDense, popEquation, popVariable, pop}
+use Rattle.lazy.specs.Cancelled.{addedCancels, popCancels}
+use Rattle.lazy.specs.Lazy.{State, others, isIdle, passOver, solveFor, popDense, popEquation, popVariable, pop}
 
 pub equation-dense : (sys : List Equation) (e : ℕ) (es : List ℕ) (s : State) → getD (s .priority) e 0 ≡ 0 → popEquation sys e es s ≡ popDense e es s
 unfolding popEquation
@@ -48,3 +49,47 @@ pop-then sys v vs s h g =
     _≡_ {A = Result State} (elim l [ [] ↦ elim (s .variables) [ [] ↦ ok s | v ∷ vs ↦ ok (popVariable sys v vs s) ] | e ∷ es ↦ popEquation sys e es s ]) (ok (popVariable sys v vs s)))
     (sym h)
     (subst (λ (k : List ℕ). _≡_ {A = Result State} (elim k [ [] ↦ ok s | v ∷ vs ↦ ok (popVariable sys v vs s) ]) (ok (popVariable sys v vs s))) (sym g) refl)
+
+-- ---- what cancels
+
+pub count-none : (sys : List Equation) (s : State) → s .equations ≡ [] → popCancels sys s ≡ 0
+unfolding popCancels
+count-none sys s h =
+    subst (λ (l : List ℕ). _≡_ {A = ℕ} (elim l [
+      | [] ↦ 0
+      | e ∷ es ↦
+          elim (getD (s .priority) e 0) [
+            | zero ↦ 0
+            | suc p ↦ elim p [ zero ↦ addedCancels (others sys (firstOf (isIdle s) (rowOf (s .rows) e .vars)) e) e (s .rows) | suc _ ↦ 0 ]
+          ]
+    ]) 0) (sym h) refl
+
+count-first : (sys : List Equation) (e : ℕ) (es : List ℕ) (s : State) (p : ℕ) → s .equations ≡ e ∷ es → getD (s .priority) e 0 ≡ p
+    → popCancels sys s ≡ elim p [
+      | zero ↦ 0
+      | suc p ↦ elim p [ zero ↦ addedCancels (others sys (firstOf (isIdle s) (rowOf (s .rows) e .vars)) e) e (s .rows) | suc _ ↦ 0 ]
+    ]
+unfolding popCancels
+count-first sys e es s p h g =
+    subst (λ (l : List ℕ). _≡_ {A = ℕ} (elim l [
+      | [] ↦ 0
+      | e ∷ es ↦
+          elim (getD (s .priority) e 0) [
+            | zero ↦ 0
+            | suc p ↦ elim p [ zero ↦ addedCancels (others sys (firstOf (isIdle s) (rowOf (s .rows) e .vars)) e) e (s .rows) | suc _ ↦ 0 ]
+          ]
+    ]) (elim p [
+      | zero ↦ 0
+      | suc p ↦ elim p [ zero ↦ addedCancels (others sys (firstOf (isIdle s) (rowOf (s .rows) e .vars)) e) e (s .rows) | suc _ ↦ 0 ]
+    ])) (sym h)
+    (ap (λ (p : ℕ). elim p [
+      | zero ↦ 0
+      | suc p ↦ elim p [ zero ↦ addedCancels (others sys (firstOf (isIdle s) (rowOf (s .rows) e .vars)) e) e (s .rows) | suc _ ↦ 0 ]
+    ]) g)
+
+pub count-dense : (sys : List Equation) (e : ℕ) (es : List ℕ) (s : State) → s .equations ≡ e ∷ es → getD (s .priority) e 0 ≡ 0 → popCancels sys s ≡ 0
+count-dense sys e es s h g = count-first sys e es s 0 h g
+
+pub count-solve : (sys : List Equation) (e : ℕ) (es : List ℕ) (s : State) → s .equations ≡ e ∷ es → getD (s .priority) e 0 ≡ 1
+    → popCancels sys s ≡ addedCancels (others sys (firstOf (isIdle s) (rowOf (s .rows) e .vars)) e) e (s .rows)
+count-solve sys e es s h g = count-first sys e es s 1 h g

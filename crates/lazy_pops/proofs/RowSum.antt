@@ -1,16 +1,19 @@
 -- One equation added into another.
 use mathlib.Core.Path.{_≡_, refl, sym, ap, ap₂, _∙_, subst}
 use mathlib.Core.List.{List, [], _∷_, _++_, append-nil, map}
-use Prim.Native.Nat.{ℕ, zero, suc, _+_, _*_, _≤_, _<_}
+use Prim.Native.Nat.{ℕ, zero, suc, _+_, _-_, _*_, _/_, _≤_, _<_}
 use native.Mathlib.Nat.{add-zero, zero-add}
 use native.Mathlib.Omega.{arith}
 use lib.ListN.{length, getD, set, replicate, length-set, length-map, length-append, length-replicate, List·getD-map, List·getD-append}
 use lib.Seq.{set-append-left}
 use lib.Bits.{bitXor}
-use Rattle.gf2.specs.Equation.{Equation, Each, Rising, symDiff, sum}
+use Rattle.gf2.specs.Equation.{Equation, Each, Increasing, Rising, symDiff, sum}
 use Rattle.gf2.specs.ByNumber.{blank, rowOf}
 use Rattle.gf2.proofs.Each.{each-at, each-set}
 use Rattle.gf2.proofs.SymDiff.{rising-symDiff, rising-length}
+use Rattle.gf2.proofs.Order.{rising-increasing}
+use Rattle.gf2.specs.Common.{common}
+use Rattle.gf2.proofs.Common.{length-symDiff, common-half}
 use Rattle.answers.specs.Sizes.{maxVariables}
 use Rattle.areas.specs.Segments.{joined, offset}
 use Rattle.areas.specs.Stretch.{stretch, put}
@@ -141,6 +144,20 @@ module _ {n m : ℕ} {layout : Layout} {sys : List Equation} {s : State} {lens s
 
     pub len-short : len ≤ n
     len-short = omega (arith, len-is, total-short)
+
+    -- the lengths that were read, and what they say of the sum
+    rises : (x : ℕ) → x < m → Increasing (rowOf (s .rows) x .vars)
+    rises x h = rising-increasing 0 n (rowOf (s .rows) x .vars) (row-rising x h)
+
+    pub len-within : len ≤ getD numbers (lens + f) 0 + getD numbers (lens + e) 0
+    len-within =
+        let k = length-symDiff (rowOf (s .rows) f .vars) (rowOf (s .rows) e .vars) (rises f (a .f-in)) (rises e (a .e-in)) in
+        omega (arith, len-is, length-at f (a .f-in), length-at e (a .e-in))
+
+    pub len-shares : (getD numbers (lens + f) 0 + getD numbers (lens + e) 0 - len) / 2 ≡ common (rowOf (s .rows) f .vars) (rowOf (s .rows) e .vars)
+    len-shares =
+        ap₂ (λ (x y : ℕ). (x + y - len) / 2) (length-at f (a .f-in)) (length-at e (a .e-in))
+        ∙ common-half (rowOf (s .rows) f .vars) (rowOf (s .rows) e .vars) len (rises f (a .f-in)) (rises e (a .e-in)) len-is
 
     numbers-are : numbers₁ ≡ put (f * n) (padded n (total .vars)) numbers
     numbers-are = q .1 ∙ ap₂ (λ (x y : List ℕ). put (f * n) (padded n (symDiff x y)) numbers) (vars-at f (a .f-in)) (vars-at e (a .e-in))

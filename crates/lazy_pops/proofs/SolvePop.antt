@@ -21,6 +21,7 @@ use Rattle.lazy.specs.Safe.{pivotOf}
 use Rattle.lazy.proofs.Keeps.{pivot-there, pivot-free}
 use Rattle.lazy.proofs.Pops.{Popped, Clash, pop-keeps}
 use Rattle.lazy.proofs.Room.{equations-room, row-rising, row-room}
+use Rattle.lazy.specs.Cancelled.{addedCancels}
 use Rattle.lazy_setup.specs.declared.Layout.{Layout}
 use Rattle.lazy_setup.specs.declared.Stand.{Stand}
 use Rattle.lazy_setup.specs.Area.{mark, wordsOf}
@@ -146,6 +147,11 @@ module _ {n m : ℕ} {layout : Layout} {sys : List Equation} {s : State} {e : �
       can = rw v-is (others-lower n sys s (a .inv) (pivotOf s e) e pivot-is-free);
       room = rw (v-is, d .many) (equations-room n sys (a .lent) (solveFor sys (pivotOf s e) e es s) (kept .inv));
     }
+
+    -- the sums are made of the rows as they were
+    pub solve-count : {t : ℕ} → t ≡ addedCancels (others sys v e) e (marked-solved .rows) → t ≡ addedCancels (others sys (pivotOf s e) e) e (s .rows)
+    unfolding weightless recorded passOver
+    solve-count z = z ∙ ap (λ (u : ℕ). addedCancels (others sys u e) e (s .rows)) v-is
 
     pub solve-done : {numbers₂ words₂ : List ℕ} {top′ : ℕ} {numbers₃ : List ℕ} → AddDone n m layout sys (addTo (others sys v e) e marked-solved) numbers₂ words₂
         → LowerDone n m layout sys (addTo (others sys v e) e marked-solved) v e top′ numbers₃

@@ -13,3 +13,9 @@ pub enum Step {
     Solved,
     Unsolvable,
 }
+
+// .. and how many variables cancelled in the sums of the unit.
+pub struct CountedStep {
+    pub step: Step,
+    pub cancelled: u64,
+}

@@ -1,4 +1,5 @@
 // One pop: from the equation list while it has one, else from the variable list.
+use crate::CountedStep;
 use crate::Step;
 use crate::copying::pop_dense;
 use crate::solving::solve_for;
@@ -10,6 +11,7 @@ ghost use mathlib.Core.List.{List};
 ghost use Prim.Native.Nat.{ℕ, _≤_};
 ghost use Rattle.gf2.specs.Equation.{Equation};
 ghost use Rattle.lazy.specs.Lazy.{State, pop};
+ghost use Rattle.lazy.specs.Cancelled.{popCancels};
 ghost use Rattle.lazy_pops.specs.Pops.{PopAt, PopReady, After};
 
 // The top of the equation list is popped: by its priority it goes to the dense part or solves a variable.
@@ -20,9 +22,10 @@ fn pop_equation(
     n: usize,
     m: usize,
     stand: Stand,
-) -> Step
+) -> CountedStep
     requires { ⌜ PopReady n m layout stand (now numbers) (now words) × (1 ≤ stand .equations) ⌝ }
-    ensures { λ r. ⌜ ((sys : List Equation) (s : State) → PopAt n m layout sys s stand (now (numbers .entry)) (now (words .entry)) → After n m layout sys (pop sys s) r (now (numbers .exit)) (now (words .exit))) ⌝ }
+    ensures { λ r. ⌜ ((sys : List Equation) (s : State) → PopAt n m layout sys s stand (now (numbers .entry)) (now (words .entry)) → After n m layout sys (pop sys s) (r .step) (now (numbers .exit)) (now (words .exit))) ⌝ }
+    ensures { λ r. ⌜ ((sys : List Equation) (s : State) → PopAt n m layout sys s stand (now (numbers .entry)) (now (words .entry)) → r .cancelled ≡ popCancels sys s) ⌝ }
 {
     let mut next = stand;
     next.equations = stand.equations - 1;
@@ -32,9 +35,15 @@ fn pop_equation(
     numbers[last] = 0;
     let p = layout.priority + e as usize;
     if numbers[p] == 0 {
-        return pop_dense(numbers, words, layout, n, m, next, e);
+        let step = pop_dense(numbers, words, layout, n, m, next, e);
+        return CountedStep { step, cancelled: 0 };
     }
-    Step::More(solve_for(numbers, words, layout, n, m, next, e))
+    let solving = solve_for(numbers, words, layout, n, m, next, e);
+    let solved = solving.stand;
+    CountedStep {
+        step: Step::More(solved),
+        cancelled: solving.cancelled,
+    }
 }
 
 // One pop, while equations remain.
@@ -45,12 +54,17 @@ pub fn pop(
     n: usize,
     m: usize,
     stand: Stand,
-) -> Step
+) -> CountedStep
     requires { ⌜ PopReady n m layout stand (now numbers) (now words) ⌝ }
-    ensures { λ r. ⌜ ((sys : List Equation) (s : State) → PopAt n m layout sys s stand (now (numbers .entry)) (now (words .entry)) → After n m layout sys (pop sys s) r (now (numbers .exit)) (now (words .exit))) ⌝ }
+    ensures { λ r. ⌜ ((sys : List Equation) (s : State) → PopAt n m layout sys s stand (now (numbers .entry)) (now (words .entry)) → After n m layout sys (pop sys s) (r .step) (now (numbers .exit)) (now (words .exit))) ⌝ }
+    ensures { λ r. ⌜ ((sys : List Equation) (s : State) → PopAt n m layout sys s stand (now (numbers .entry)) (now (words .entry)) → r .cancelled ≡ popCancels sys s) ⌝ }
 {
     if stand.equations != 0 {
         return pop_equation(numbers, words, layout, n, m, stand);
     }
-    Step::More(pop_variable(numbers, layout, m, stand))
+    let next = pop_variable(numbers, layout, m, stand);
+    CountedStep {
+        step: Step::More(next),
+        cancelled: 0,
+    }
 }

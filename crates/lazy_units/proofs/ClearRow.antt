@@ -13,9 +13,10 @@ use Rattle.gf2.proofs.Each.{each-take}
 use Rattle.areas.specs.Rows.{padded}
 use Rattle.areas.proofs.Rows.{length-padded}
 use Rattle.rows.specs.Picture.{picture, Drawn, Held, constantOf, rowsOf}
-use Rattle.rows.proofs.Holding.{held, carried, drawn-padded}
+use Rattle.rows.proofs.Holding.{held, carried, rows-are, drawn-padded}
 use Rattle.rows.proofs.Padding.{padded-agree}
 use Rattle.sparse_rules.specs.Eliminate.{outerRow}
+use Rattle.sparse_rules.specs.Cancelled.{outerRowCancels}
 use Rattle.sparse_rows.specs.Reduce.{ReducedBy, refused, reduced, Reduces}
 use Rattle.sparse_rows.specs.declared.echelon.Reduction.{Reduction}
 use Rattle.sparse_rows.specs.declared.echelon.Reduction.the-variants as reduction
@@ -109,6 +110,12 @@ module _ {n m : ℕ} {layout : Layout} {sys : List Equation} {s : State} {stand 
         within = omega arith;
         small = st .fit .small;
       }
+
+  -- the rows in use are the dense part
+  pub clear-count : {t : ℕ} → t ≡ outerRowCancels (stand .done) (take (stand .dense) (rowsOf n m (drop (layout .dense) numbers) (drop m words))) → t ≡ outerRowCancels (s .denseDone) (s .dense)
+  clear-count q =
+      let u : take (stand .dense) (filled m (s .dense)) ≡ s .dense = rw (dense-count st) (in-use m (s .dense)) in
+      q ∙ ap₂ outerRowCancels (done-count st) (ap (take (stand .dense)) (rows-are (dense-there st)) ∙ u)
 
   module _ {numbers′ words′ : List ℕ} {r : Reduction} (q : Cleared (layout .dense) n m (stand .dense) (stand .done) numbers words numbers′ words′ r) where
     came : ReducedBy n m (stand .dense) (filled m (s .dense)) [] [] (outerRow (s .denseDone) (s .dense)) (drop (layout .dense) numbers′) (drop m words′) r

@@ -1,13 +1,17 @@
 -- The run, unit after unit.
 use mathlib.Core.Path.{_≡_, refl, sym, ap, ap₂, _∙_, subst}
 use mathlib.Core.List.{List, [], _∷_}
-use Prim.Native.Nat.{ℕ, zero, suc, pred, _+_, _-_, _≤_, _<_}
+use Prim.Native.Nat.{ℕ, zero, suc, pred, _+_, _-_, _*_, _≤_, _<_}
+use native.Mathlib.Nat.{le-refl, mul-le-mul}
 use native.Mathlib.Omega.{arith}
 use lib.ListN.{length}
 use Rattle.gf2.specs.Equation.{Equation}
 use Rattle.gf2.specs.Result.{Result, unsolvable, ok}
 use Rattle.lazy.specs.Lazy.{State, Build, more, ended, unit, after, answerOf}
 use Rattle.lazy.proofs.Turns.{after-end}
+use Rattle.answers.specs.Sizes.{maxVariables, maxEquations}
+use Rattle.lazy.specs.Cancelled.{unitCancels, afterCancels}
+use Rattle.gf2.proofs.Tally.{Tally, tally-begin, tally-turn, tally-last}
 use Rattle.lazy_setup.specs.declared.Layout.{Layout}
 use Rattle.lazy_setup.specs.declared.Stand.{Stand}
 use Rattle.lazy_setup.specs.Layout.{standOf}
@@ -17,35 +21,60 @@ use Rattle.lazy_units.specs.Tidy.{Tidy}
 use Rattle.lazy_units.specs.Units.{Stands, left, Gone, Over}
 use Rattle.lazy_units.specs.Ending.{UnitAt}
 use Rattle.lazy_units.specs.Running.{leftOf}
+use Rattle.lazy_units.proofs.UnitCases.{unit-room}
 
 -- from s′, k′ units lead where k units lead from s
-pub record Ahead (n : ℕ) (sys : List Equation) (s s′ : State) (k : ℕ) : Type 0 where
+pub record Ahead (n : ℕ) (sys : List Equation) (s s′ : State) (cancelled k : ℕ) : Type 0 where
   pub k′ : ℕ
   pub enough : left s′ < k′
   pub follows : after k n sys (more s) ≡ after k′ n sys (more s′)
+  pub counts : Tally cancelled (afterCancels k′ n sys (more s′)) (afterCancels k n sys (more s))
 
-pub record Running (n m : ℕ) (layout : Layout) (sys : List Equation) (s : State) (stand : Stand) (numbers words solution₀ solution : List ℕ) : Type 0 where
+pub record Running (n m : ℕ) (layout : Layout) (sys : List Equation) (s : State) (stand : Stand) (numbers words solution₀ solution : List ℕ) (cancelled : ℕ) : Type 0 where
   pub s′ : State
   pub at : UnitAt n m layout sys s′ stand numbers words solution
   pub same : solution ≡ solution₀
-  pub ahead : (k : ℕ) → left s < k → Ahead n sys s s′ k
+  pub ahead : (k : ℕ) → left s < k → Ahead n sys s s′ cancelled k
+  -- each unit so far has cancelled no more than the rows can hold
+  pub room : cancelled + left s′ * (m * n) ≤ left s * (m * n)
 
 pub run-begin : {n m : ℕ} {layout : Layout} {sys : List Equation} {s : State} {stand : Stand} {numbers words solution : List ℕ}
-    → UnitAt n m layout sys s stand numbers words solution → Running n m layout sys s stand numbers words solution solution
-run-begin {s = s} a = record { s′ = s; at = a; same = refl; ahead = λ k h. record { k′ = k; enough = h; follows = refl } }
+    → UnitAt n m layout sys s stand numbers words solution → Running n m layout sys s stand numbers words solution solution 0
+run-begin {s = s} a = record { s′ = s; at = a; same = refl; ahead = λ k h. record { k′ = k; enough = h; follows = refl; counts = tally-begin }; room = omega arith }
 
 one-unit : (n : ℕ) (sys : List Equation) (s : State) (k : ℕ) → 0 < k → after k n sys (more s) ≡ after (k - 1) n sys (unit n sys s)
 unfolding after
 one-unit n sys s zero h = absurd (omega arith)
 one-unit n sys s (suc k) h = let e : suc k - 1 ≡ k = omega arith in rw e
 
+one-count : (n : ℕ) (sys : List Equation) (s : State) (k : ℕ) → 0 < k → afterCancels k n sys (more s) ≡ unitCancels sys s + afterCancels (k - 1) n sys (unit n sys s)
+unfolding afterCancels
+one-count n sys s zero h = absurd (omega arith)
+one-count n sys s (suc k) h = let e : suc k - 1 ≡ k = omega arith in rw e
+
+none-ahead : (n : ℕ) (sys : List Equation) (k : ℕ) (x : Result (List ℕ)) → afterCancels k n sys (ended x) ≡ 0
+unfolding afterCancels
+none-ahead n sys zero x = refl
+none-ahead n sys (suc k) x = refl
+
 pub left-is : {n m : ℕ} {layout : Layout} {sys : List Equation} {s : State} {stand : Stand} {numbers words : List ℕ}
     → Stands n m layout sys s stand numbers words → leftOf stand ≡ left s
 unfolding standOf
 left-is st = ap (λ (x : Stand). leftOf x) (st .shows .counted)
 
-module _ {n m : ℕ} {layout : Layout} {sys : List Equation} {s : State} {stand : Stand} {numbers words solution₀ solution : List ℕ}
-    (i : Running n m layout sys s stand numbers words solution₀ solution) where
+-- an equation that remains is counted twice, since it may come into the dense part
+some-left : {n m : ℕ} {layout : Layout} {sys : List Equation} {s : State} {stand : Stand} {numbers words solution : List ℕ}
+    → UnitAt n m layout sys s stand numbers words solution → m ≤ maxEquations → suc (left s) ≤ 3 * maxEquations + maxVariables + 1
+some-left {n} {m} {sys = sys} {s} a few =
+    let z = a .stands .shows .laid .sized in let v = z .variables in let d = z .dense in let l = a .stands .shows .laid .many in let b = a .stands .fit .small in
+    let r : s .remaining ≤ length sys = by (s .remaining) refl in omega arith
+  where
+    by : (k : ℕ) → s .remaining ≡ k → s .remaining ≤ length sys
+    by zero e = omega arith
+    by (suc k) e = let i = a .stands .fit .inv (omega arith) in omega (arith, i .in-units .room)
+
+module _ {n m : ℕ} {layout : Layout} {sys : List Equation} {s : State} {stand : Stand} {numbers words solution₀ solution : List ℕ} {cancelled : ℕ}
+    (i : Running n m layout sys s stand numbers words solution₀ solution cancelled) where
   -- what a further unit leaves
   record Went (stand″ : Stand) (numbers″ words″ solution″ : List ℕ) : Type 0 where
     pub s″ : State
@@ -60,9 +89,9 @@ module _ {n m : ℕ} {layout : Layout} {sys : List Equation} {s : State} {stand 
   went (ended unsolvable) e stand″ numbers″ words″ solution″ g = absurd g
   went (ended (ok x)) e stand″ numbers″ words″ solution″ g = absurd g
 
-  pub run-turn : {r : Step} (stand″ : Stand) (numbers″ words″ solution″ : List ℕ) → Gone n m layout sys (i .s′) (unit n sys (i .s′)) r solution solution″ numbers″ words″ → r ≡ step.More stand″
-      → Running n m layout sys s stand″ numbers″ words″ solution₀ solution″
-  run-turn {r} stand″ numbers″ words″ solution″ g e =
+  pub run-turn : {r : Step} {t : ℕ} (stand″ : Stand) (numbers″ words″ solution″ : List ℕ) → Gone n m layout sys (i .s′) (unit n sys (i .s′)) r solution solution″ numbers″ words″ → r ≡ step.More stand″
+      → t ≡ unitCancels sys (i .s′) → Running n m layout sys s stand″ numbers″ words″ solution₀ solution″ (cancelled + t)
+  run-turn {r} {t} stand″ numbers″ words″ solution″ g e c =
       let w = went (unit n sys (i .s′)) refl stand″ numbers″ words″ solution″
       (subst (λ (x : Step). Gone n m layout sys (i .s′) (unit n sys (i .s′)) x solution solution″ numbers″ words″) e g) in
       record {
@@ -71,7 +100,16 @@ module _ {n m : ℕ} {layout : Layout} {sys : List Equation} {s : State} {stand 
         same = w .kept ∙ i .same;
         ahead = λ k h.
             let a = i .ahead k h in let p = a .enough in let q = w .nearer in
-            record { k′ = a .k′ - 1; enough = omega arith; follows = a .follows ∙ one-unit n sys (i .s′) (a .k′) (omega arith) ∙ ap (λ (b : Build). after (a .k′ - 1) n sys b) (w .is) };
+            record {
+              k′ = a .k′ - 1;
+              enough = omega arith;
+              follows = a .follows ∙ one-unit n sys (i .s′) (a .k′) (omega arith) ∙ ap (λ (b : Build). after (a .k′ - 1) n sys b) (w .is);
+              counts = tally-turn (a .counts) c (one-count n sys (i .s′) (a .k′) (omega arith) ∙ ap (λ (b : Build). unitCancels sys (i .s′) + afterCancels (a .k′ - 1) n sys b) (w .is));
+            };
+        room =
+            let u = unit-room (i .at) in
+            let x : suc (left (w .s″)) * (m * n) ≤ left (i .s′) * (m * n) = mul-le-mul (w .nearer) (le-refl (m * n)) in
+            let y = i .room in omega arith;
       }
 
   pub run-nearer : {r : Step} (stand″ : Stand) (numbers″ words″ solution″ : List ℕ) → Gone n m layout sys (i .s′) (unit n sys (i .s′)) r solution solution″ numbers″ words″ → r ≡ step.More stand″
@@ -139,3 +177,41 @@ module _ {n m : ℕ} {layout : Layout} {sys : List Equation} {s : State} {stand 
   pub run-refused : {r : Step} (solution″ numbers″ words″ : List ℕ) → Gone n m layout sys (i .s′) (unit n sys (i .s′)) r solution solution″ numbers″ words″ → r ≡ step.Unsolvable
       → Tidy n m layout numbers″ × ((k : ℕ) → left s < k → Over (answerOf (after k n sys (more s))) step.Unsolvable solution₀ solution″)
   run-refused solution″ numbers″ words″ g e = ended-so step.Unsolvable solution″ numbers″ words″ g e (λ x q. let z : _≡_ {A = ℕ} 0 1 = cc in omega arith)
+
+  -- the last unit: what was counted is all
+  run-counted : {r : Step} {t : ℕ} (e : Step) (solution″ numbers″ words″ : List ℕ) → Gone n m layout sys (i .s′) (unit n sys (i .s′)) r solution solution″ numbers″ words″ → r ≡ e
+      → ((x : Stand) → e ≡ step.More x → ⊥) → t ≡ unitCancels sys (i .s′) → (k : ℕ) → left s < k → cancelled + t ≡ afterCancels k n sys (more s)
+  run-counted {r} {t} e solution″ numbers″ words″ g q other c k h =
+      by (unit n sys (i .s′)) refl (subst (λ (x : Step). Gone n m layout sys (i .s′) (unit n sys (i .s′)) x solution solution″ numbers″ words″) q g)
+    where
+      going : (s″ : State) (r : Step) → ((x : Stand) → r ≡ step.More x → ⊥) → Gone n m layout sys (i .s′) (more s″) r solution solution″ numbers″ words″ → ⊥
+      going s″ (step.More x) other g = other x refl
+      going s″ step.Solved other g = g
+      going s″ step.Unsolvable other g = g
+
+      by : (b : Build) → unit n sys (i .s′) ≡ b → Gone n m layout sys (i .s′) b e solution solution″ numbers″ words″ → cancelled + t ≡ afterCancels k n sys (more s)
+      by (more s″) f g = absurd (going s″ e other g)
+      by (ended x) f g =
+          let a = i .ahead k h in let p = a .enough in
+          let o : afterCancels (a .k′) n sys (more (i .s′)) ≡ unitCancels sys (i .s′) + afterCancels (a .k′ - 1) n sys (ended x) =
+          one-count n sys (i .s′) (a .k′) (omega arith) ∙ ap (λ (b : Build). unitCancels sys (i .s′) + afterCancels (a .k′ - 1) n sys b) f in
+          let z = none-ahead n sys (a .k′ - 1) x in
+          tally-last (a .counts) c (omega arith) refl
+
+  pub count-solved : {r : Step} {t : ℕ} (solution″ numbers″ words″ : List ℕ) → Gone n m layout sys (i .s′) (unit n sys (i .s′)) r solution solution″ numbers″ words″ → r ≡ step.Solved
+      → t ≡ unitCancels sys (i .s′) → (k : ℕ) → left s < k → cancelled + t ≡ afterCancels k n sys (more s)
+  count-solved solution″ numbers″ words″ g e = run-counted step.Solved solution″ numbers″ words″ g e (λ x q. let z : _≡_ {A = ℕ} 0 1 = cc in omega arith)
+
+  pub count-refused : {r : Step} {t : ℕ} (solution″ numbers″ words″ : List ℕ) → Gone n m layout sys (i .s′) (unit n sys (i .s′)) r solution solution″ numbers″ words″ → r ≡ step.Unsolvable
+      → t ≡ unitCancels sys (i .s′) → (k : ℕ) → left s < k → cancelled + t ≡ afterCancels k n sys (more s)
+  count-refused solution″ numbers″ words″ g e = run-counted step.Unsolvable solution″ numbers″ words″ g e (λ x q. let z : _≡_ {A = ℕ} 0 1 = cc in omega arith)
+
+  -- .. and it fits 64 bits
+  pub run-room : {stand₀ : Stand} {numbers₀ words₀ : List ℕ} {t : ℕ} → UnitAt n m layout sys s stand₀ numbers₀ words₀ solution₀ → m ≤ maxEquations → t ≡ unitCancels sys (i .s′)
+      → cancelled + t ≤ (3 * maxEquations + maxVariables + 1) * (maxEquations * maxVariables)
+  run-room a few c =
+      let u = unit-room (i .at) in let y = i .room in
+      let l : suc (left s) ≤ 3 * maxEquations + maxVariables + 1 = some-left a few in
+      let w : m * n ≤ maxEquations * maxVariables = mul-le-mul few (a .stands .fit .small) in
+      let x : suc (left s) * (m * n) ≤ (3 * maxEquations + maxVariables + 1) * (maxEquations * maxVariables) = mul-le-mul l w in
+      omega arith

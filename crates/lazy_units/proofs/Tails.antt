@@ -7,8 +7,9 @@ use borrow.Rule.Slice.PartMut.{putMid, post-is}
 use lib.ListN.{length, take, drop, length-drop}
 use lib.Seq.{take-all, drop-length, length-take-le, take-at, drop-at}
 use Rattle.answers.specs.Sizes.{maxVariables}
-use Rattle.rows.specs.Picture.{Held}
+use Rattle.rows.specs.Picture.{Held, rowsOf}
 use Rattle.sparse_rules.specs.Eliminate.{outerRow}
+use Rattle.sparse_rules.specs.Cancelled.{outerRowCancels}
 use Rattle.sparse_rows.specs.Reduce.{Reduces}
 use Rattle.sparse_rows.specs.declared.echelon.Reduction.{Reduction}
 use Rattle.lazy_units.specs.Clearing.{ClearFits, Cleared}
@@ -36,3 +37,7 @@ module _ {dense n m d i : ℕ} {numbers words : List ℕ} (f : ClearFits dense n
     numbers-kept = back-front dense numbers t (f .place);
     words-kept = back-front m words u (f .word-place);
   }
+
+  pub clear-counts : {t : ℕ} → t ≡ outerRowCancels i (take d (rowsOf n m (take (length numbers - dense) (drop dense numbers)) (take (length words - m) (drop m words))))
+      → t ≡ outerRowCancels i (take d (rowsOf n m (drop dense numbers) (drop m words)))
+  clear-counts q = rw (tail-is dense numbers, tail-is m words) at q

@@ -3,7 +3,7 @@ use mathlib.Core.Path.{_≡_, refl, sym, ap, ap₂, _∙_, subst}
 use mathlib.Core.Logic.{_≢_}
 use mathlib.Core.List.{List, [], _∷_, _++_, map}
 use mathlib.Core.Bool.{Bool, true, false, _||_, _&&_}
-use Prim.Native.Nat.{ℕ, zero, suc, _+_, _-_, _≤_, _<_, suc-le-suc, zero-le}
+use Prim.Native.Nat.{ℕ, zero, suc, _+_, _-_, _*_, _≤_, _<_, suc-le-suc, zero-le}
 use native.Mathlib.Omega.{arith}
 use native.Mathlib.Numerals.{add-one}
 use lib.ListN.{length, getD}
@@ -19,6 +19,9 @@ use Rattle.lazy.specs.Invariant.{Lent, Inv, solves}
 use Rattle.lazy.specs.Lazy.{State, Solved, pop, denseRow, lastUnit, Build, more, ended, goOn, unit}
 use Rattle.lazy.proofs.Pops as laws
 use Rattle.lazy.proofs.Room.{row-rising, dense-rising}
+use Rattle.sparse_rules.specs.Cancelled.{outerRowCancels}
+use Rattle.lazy.specs.Cancelled.{popCancels, unitCancels}
+use Rattle.lazy.proofs.Cancelled.{unit-le}
 use Rattle.lazy_setup.specs.declared.Layout.{Layout}
 use Rattle.lazy_setup.specs.declared.Stand.{Stand}
 use Rattle.lazy_setup.specs.Layout.{standOf}
@@ -67,6 +70,33 @@ unit-last : (n : ℕ) (sys : List Equation) (s : State) → s .remaining ≡ 0 �
 unit-last n sys s h g =
     unit-rest n sys s h
     ∙ ap (λ (b : Bool). elim b [ true ↦ goOn (denseRow s) | false ↦ ended (lastUnit n s) ]) (ltb-not (suc (s .denseDone)) (length (s .dense)) g)
+
+-- ---- what cancels
+
+count-pop : (sys : List Equation) (s : State) → s .remaining ≢ 0 → unitCancels sys s ≡ popCancels sys s
+unfolding unitCancels
+count-pop sys s = go (s .remaining)
+  where
+    go : (k : ℕ) → k ≢ 0
+        → _≡_ {A = ℕ} (elim k [
+          | zero ↦ elim (ltb (suc (s .denseDone)) (length (s .dense))) [ true ↦ outerRowCancels (s .denseDone) (s .dense) | false ↦ 0 ]
+          | suc _ ↦ popCancels sys s
+        ]) (popCancels sys s)
+    go zero h = absurd (h refl)
+    go (suc k) h = refl
+
+count-rest : (sys : List Equation) (s : State) (b : Bool) → s .remaining ≡ 0 → ltb (suc (s .denseDone)) (length (s .dense)) ≡ b
+    → unitCancels sys s ≡ elim b [ true ↦ outerRowCancels (s .denseDone) (s .dense) | false ↦ 0 ]
+unfolding unitCancels
+count-rest sys s b h g = go (s .remaining) h ∙ ap (λ (b : Bool). elim b [ true ↦ outerRowCancels (s .denseDone) (s .dense) | false ↦ 0 ]) g
+  where
+    go : (k : ℕ) → k ≡ 0
+        → _≡_ {A = ℕ} (elim k [
+          | zero ↦ elim (ltb (suc (s .denseDone)) (length (s .dense))) [ true ↦ outerRowCancels (s .denseDone) (s .dense) | false ↦ 0 ]
+          | suc _ ↦ popCancels sys s
+        ]) (elim (ltb (suc (s .denseDone)) (length (s .dense))) [ true ↦ outerRowCancels (s .denseDone) (s .dense) | false ↦ 0 ])
+    go zero h = refl
+    go (suc k) h = absurd (omega arith)
 
 -- ---- what is solved
 
@@ -168,3 +198,20 @@ module _ {n m : ℕ} {layout : Layout} {sys : List Equation} {s : State} {stand 
       → Gone n m layout sys s (unit n sys s) r solution solution′ numbers words
   last-gone r solution′ z h q =
       rw (unit-last n sys s (sym remaining-is ∙ z) (omega (arith, dense-count (a .stands), done-count (a .stands)))) (over-gone n m layout sys s numbers words (laid-tidy (a .stands .shows .laid)) solution solution′ (lastUnit n s) r q)
+
+  -- ---- what cancelled in the unit
+
+  pub pop-counted : {t : ℕ} → stand .remaining ≢ 0 → t ≡ popCancels sys s → t ≡ unitCancels sys s
+  pop-counted h q = q ∙ sym (count-pop sys s (λ z. h (remaining-is ∙ z)))
+
+  pub clear-counted : {t : ℕ} → stand .remaining ≡ 0 → stand .done + 1 < stand .dense → t ≡ outerRowCancels (s .denseDone) (s .dense) → t ≡ unitCancels sys s
+  clear-counted z h q =
+      q ∙ sym (count-rest sys s true (sym remaining-is ∙ z) (ltb-yes (suc (s .denseDone)) (length (s .dense)) (omega (arith, dense-count (a .stands), done-count (a .stands)))))
+
+  pub last-counted : stand .remaining ≡ 0 → stand .dense ≤ stand .done + 1 → 0 ≡ unitCancels sys s
+  last-counted z h =
+      sym (count-rest sys s false (sym remaining-is ∙ z) (ltb-not (suc (s .denseDone)) (length (s .dense)) (omega (arith, dense-count (a .stands), done-count (a .stands)))))
+
+  -- no more than the rows can hold
+  pub unit-room : unitCancels sys s ≤ m * n
+  unit-room = rw (a .stands .shows .laid .many) (unit-le n sys s (a .stands .fit .rising) (a .stands .fit .dense-rising) (a .stands .shows .laid .sized .dense))

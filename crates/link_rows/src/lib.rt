@@ -26,7 +26,7 @@ fn solve_by_kind(
     ensures { λ _. ⌜ now (solution .exit) ≡ solverOf kind n m (now (starts .entry)) (now (vars .entry)) (now (constants .entry)) (now (solution .entry)) (now (numbers .entry)) (now (words .entry)) .solution ⌝ }
 {
     if kind == LAZY {
-        return lazy_calls::lazy_gaussian_elimination(
+        let built = lazy_calls::lazy_gaussian_elimination(
             n,
             m,
             starts,
@@ -36,8 +36,19 @@ fn solve_by_kind(
             numbers,
             words,
         );
+        return built.answer;
     }
-    sparse::gaussian_elimination(n, m, starts, vars, constants, solution, numbers, words)
+    let built = sparse::gaussian_elimination(
+        n,
+        m,
+        starts,
+        vars,
+        constants,
+        solution,
+        numbers,
+        words,
+    );
+    built.answer
 }
 
 // Lends the work areas, all zero.

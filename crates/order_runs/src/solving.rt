@@ -35,9 +35,18 @@ fn by_all(
     let mut x = [0u64; 80];
     let mut y = [0u64; 80];
     let mut z = [0u64; 80];
-    let a = gaussian_elimination(n, m, starts, vars, constants, &mut x[..n], numbers, words);
+    let a = gaussian_elimination(n, m, starts, vars, constants, &mut x[..n], numbers, words).answer;
     let b = dense_gaussian_elimination(n, m, 2, rows, constants, &mut y[..n], numbers, words);
-    let c = lazy_gaussian_elimination(n, m, starts, vars, constants, &mut z[..n], numbers, words);
+    let c = lazy_gaussian_elimination(
+        n,
+        m,
+        starts,
+        vars,
+        constants,
+        &mut z[..n],
+        numbers,
+        words,
+    ).answer;
     ByEach {
         sparse: Came { answer: a, x },
         dense: Came { answer: b, x: y },

@@ -32,7 +32,7 @@ use Rattle.peel_gates.specs.Ends.{endOf}
 use Rattle.peel_turns.proofs.PictureLaws.{set-in, in-graph, drop-agrees}
 use Rattle.peel_gates.proofs.RoomLaws.{zeroed-cleared}
 use Rattle.peel_walks.specs.Walks.{Begins, PeelStarts, PeelEnds, Fillable}
-use Rattle.peel_parts.specs.Parts.{Built, PeelAsks, FillAsks, cellsAfter, SettleAsks, Says, ranSays, Admitted, GraphAsks, Past}
+use Rattle.peel_parts.specs.Parts.{GraphBuilt, PeelAsks, FillAsks, cellsAfter, SettleAsks, Says, ranSays, Admitted, GraphAsks, Past}
 
 -- ---- the graph lies in the first n cells of both areas
 
@@ -104,7 +104,7 @@ pub emptied : {n : ℕ} {T : List Edge} {numbers bytes : List ℕ} → Begins n 
 emptied g d b p q = record { valid = g .valid; small = g .small; room = omega (arith, p, g .room); room-b = omega (arith, q, g .room-b) }
 
 pub built : {n : ℕ} {T : List Edge} {numbers bytes d b d₁ b₁ : List ℕ} {low : ℕ} → Begins n T numbers bytes → (d ≡ cleared n numbers) × (b ≡ cleared n bytes)
-    → (low ≡ crowdOf 0 T (graphOf d b) n) × (graphOf d₁ b₁ ≡ build 0 T (graphOf d b)) → length d₁ ≡ length numbers → length b₁ ≡ length bytes → Built n T numbers bytes d₁ b₁ low
+    → (low ≡ crowdOf 0 T (graphOf d b) n) × (graphOf d₁ b₁ ≡ build 0 T (graphOf d b)) → length d₁ ≡ length numbers → length b₁ ≡ length bytes → GraphBuilt n T numbers bytes d₁ b₁ low
 unfolding empty
 built {n} {T} {numbers} {bytes} {d} {b} {d₁} {b₁} {low} a c s p q = record {
   graph = ap (cut n) (s .1) ∙ build-cut n 0 T (graphOf d b) (a .valid) ∙ ap (build 0 T) blank;

@@ -21,7 +21,7 @@ use Rattle.peel_gates.specs.Rooms.{Lent}
 use Rattle.peel_walks.specs.Walks.{Fillable}
 
 -- the graph is made in the first n cells of both areas
-pub record Built (n : ℕ) (T : List Edge) (numbers bytes numbers₁ bytes₁ : List ℕ) (low : ℕ) : Type 0 where
+pub record GraphBuilt (n : ℕ) (T : List Edge) (numbers bytes numbers₁ bytes₁ : List ℕ) (low : ℕ) : Type 0 where
   pub graph : graphIn n numbers₁ bytes₁ ≡ build 0 T (empty n)
   pub crowd : low ≡ crowdedVertex n T
   pub rest : drop n numbers₁ ≡ drop n numbers

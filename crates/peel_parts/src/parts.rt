@@ -1,7 +1,7 @@
 // The parts of a run over a table whose edges keep their rule.
 ghost use mathlib.Core.Path.{_≡_};
 ghost use Rattle.peel_walks.specs.Walks.{Begins, PeelEnds};
-ghost use Rattle.peel_parts.specs.Parts.{Built, PeelAsks, FillAsks, cellsAfter, SettleAsks, GraphAsks, Says, Past, ranSays};
+ghost use Rattle.peel_parts.specs.Parts.{GraphBuilt, PeelAsks, FillAsks, cellsAfter, SettleAsks, GraphAsks, Says, Past, ranSays};
 use areas::zero::zero_words;
 use peel_gates::ends::Peeling;
 use peel_gates::ends::ended;
@@ -15,7 +15,7 @@ use peeling::numbers::Edge;
 // Makes the graph of the edges, and hands back the lowest vertex that came to its 64th incidence, or n.
 pub fn build_graph(edges: &[Edge], n: usize, numbers: &mut [u32], bytes: &mut [u8]) -> usize
     requires { ⌜ Begins n (now edges) (now numbers) (now bytes) ⌝ }
-    ensures { λ r. ⌜ Built n (now (edges .entry)) (now (numbers .entry)) (now (bytes .entry)) (now (numbers .exit)) (now (bytes .exit)) r ⌝ }
+    ensures { λ r. ⌜ GraphBuilt n (now (edges .entry)) (now (numbers .entry)) (now (bytes .entry)) (now (numbers .exit)) (now (bytes .exit)) r ⌝ }
 {
     empty_graph(n, numbers, bytes);
     add_edges(edges, n, numbers, bytes)

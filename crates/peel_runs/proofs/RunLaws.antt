@@ -20,7 +20,7 @@ use Rattle.peel_gates.specs.Rooms.{numbersRoom, bytesRoom}
 use Rattle.peel_gates.specs.Rooms.{Lent, Left}
 use Rattle.peel_turns.proofs.PictureLaws.{drop-agrees}
 use Rattle.peel_walks.specs.Walks.{Begins}
-use Rattle.peel_parts.specs.Parts.{Built, Says, ranSays, Admitted, GraphAsks, Past}
+use Rattle.peel_parts.specs.Parts.{GraphBuilt, Says, ranSays, Admitted, GraphAsks, Past}
 use Rattle.peel_runs.specs.Runs.{BuiltAsks, Leaves, runSays, runCall}
 use Rattle.peel_parts.proofs.PartLaws.{room-least, lent-on}
 
@@ -65,7 +65,7 @@ module _ {high : Bool} {n m : ℕ} {T : List Edge} {cells numbers bytes : List �
     room-b = omega (arith, room-least high n m .1, a .lent .bytes-room);
   }
 
-  module _ {d b : List ℕ} {low : ℕ} (g : Built n T numbers bytes d b low) where
+  module _ {d b : List ℕ} {low : ℕ} (g : GraphBuilt n T numbers bytes d b low) where
     pub built-asks : BuiltAsks high n m low T cells d b
     built-asks = record { admitted = record { lent = lent-on (a .lent) (g .long) (g .long-b); all = a .all; valid = a .valid; size = a .size }; graph = g .graph; crowd = g .crowd }
 

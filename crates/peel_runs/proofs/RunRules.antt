@@ -9,7 +9,7 @@ use Rattle.peel_rules.specs.Report.{noReport}
 use Rattle.peel_gates.specs.Rooms.{Lent, Left}
 use Rattle.peel_walks.specs.Walks.{Begins}
 use Rattle.peel_runs.specs.Runs.{BuiltAsks, runSays}
-use Rattle.peel_parts.specs.Parts.{Admitted, GraphAsks, Past, Built, Says, ranSays}
+use Rattle.peel_parts.specs.Parts.{Admitted, GraphAsks, Past, GraphBuilt, Says, ranSays}
 use Rattle.peeling.specs.declared.numbers.Edge.{Edge}
 use Rattle.peeling.proofs.numbers.Edge as Edgeᴿ
 use Rattle.walk_rules.proofs.Lent.{val, at, Shr, Mut, Lent as LentFor, Kept, lends, backs}
@@ -71,13 +71,13 @@ module _ {M : Type 1} {𝓤 : URA M} {H : Heap 𝓤} {A : Atoms 𝓤} {K : Type 
   pub calls-build-graph : K → FmC 𝓤 H (W .laws) C → (at-mem : Memory → SProp 𝓤) (run : Routine → Fun 𝓤) → Triple 𝓤 (C build-graph-def.name) (BuildGraphᶜ 𝓤 H A at-mem run)
       → (κx : Lft) (qx : Share) (x : RefT (List Edge)) → (n : ℕ) → n < 2 ^ 64 → (κy : Lft) (qy : Share) (y : RefT (List ℕ)) (d : List ℕ) → length d ≡ length (now y) → Room u32 (length (now y)) → (κz : Lft) (qz : Share) (z : RefT (List ℕ)) (b : List ℕ) → length b ≡ length (now z) → Room u8 (length (now z)) → Begins n (now x) d b
       → ((νy : ℕ) (δy : GName) (νz : ℕ) (δz : GName) → Opds K W (raw (BuildGraphᶜ 𝓤 H A at-mem run .pre (to-build-graph 𝓤 H A at-mem run κx qx x n νy δy y d νz δz z b)) ∷ ‵ ftrue ∷ ‵ ftrue ∷ ‵ (Kept u8 κz qz νz δz z b) ∷ ‵ (Kept u32 κy qy νy δy y d) ∷ ‵ (Shr Edgeᴿ.the-row κx x) ∷ Γ) E xs (val x ∷ vint w64 n ∷ val y ∷ val z ∷ []))
-      → ((res : ℕ) → (zsy : List ℕ) → (zsz : List ℕ) → (Built n (now x) d b zsy zsz res) → length zsy ≡ length d → length zsz ≡ length b → Is (UInt w64) res (vint w64 res ∷ []) → Seq K W (‵ (Shr Edgeᴿ.the-row κx x) ∷ ‵ (flft κx qx) ∷ ‵ (Mut u32 κy y zsy) ∷ ‵ (flft κy qy) ∷ ‵ (Mut u8 κz z zsz) ∷ ‵ (flft κz qz) ∷ Γ) (lands C Λ E dst (vint w64 res) rest p))
+      → ((res : ℕ) → (zsy : List ℕ) → (zsz : List ℕ) → (GraphBuilt n (now x) d b zsy zsz res) → length zsy ≡ length d → length zsz ≡ length b → Is (UInt w64) res (vint w64 res ∷ []) → Seq K W (‵ (Shr Edgeᴿ.the-row κx x) ∷ ‵ (flft κx qx) ∷ ‵ (Mut u32 κy y zsy) ∷ ‵ (flft κy qy) ∷ ‵ (Mut u8 κz z zsz) ∷ ‵ (flft κz qz) ∷ Γ) (lands C Λ E dst (vint w64 res) rest p))
       → Seq K W (‵ (Shr Edgeᴿ.the-row κx x) ∷ ‵ (flft κx qx) ∷ ‵ (Mut u32 κy y d) ∷ ‵ (flft κy qy) ∷ ‵ (Mut u8 κz z b) ∷ ‵ (flft κz qz) ∷ Γ) (runs C Λ E (seq (call build-graph-def.name xs dst) rest) p)
   calls-build-graph t fm at-mem run known κx qx x n n-fits κy qy y d long-y room-y κz qz z b long-z room-z required os k =
       use1 W (‵ (Shr Edgeᴿ.the-row κx x) ⊛ ‵ (Shr Edgeᴿ.the-row κx x)) (shr-slice-copy 𝓤 H A W (named 0) κx Edgeᴿ.the-row .twice x (val x ∷ [])) $ split t $ move t (3 ∷ 4 ∷ []) $ lends t tt u32 κy qy y d long-y (λ νy δy. move t (6 ∷ 7 ∷ []) $ lends t tt u8 κz qz z b long-z (λ νz δz. move t (3 ∷ 0 ∷ []) $ join t $ move t (7 ∷ 0 ∷ []) $ join t $ move t (3 ∷ 1 ∷ []) $ join t $ move t (5 ∷ 0 ∷ []) $ join t $ use2 W (raw (BuildGraphᶜ 𝓤 H A at-mem run .pre (to-build-graph 𝓤 H A at-mem run κx qx x n νy δy y d νz δz z b))) (goes νy δy νz δz) $ nothing t $ nothing t $ move t (2 ∷ []) $
       calls-at t fm (BuildGraphᶜ 𝓤 H A at-mem run) known (to-build-graph 𝓤 H A at-mem run κx qx x n νy δy y d νz δz z b) (os νy δy νz δz) (λ v.
       use1 W (later (some (λ (res : ℕ). ((‵ (flft κx qx) ⊛ ‵ (flft (νy ∷ []) fullShare) ⊛ ‵ (flft (νz ∷ []) fullShare) ⊛ ‵ ftrue) ⊛ ‵ ((UInt w64) .own res (v ∷ []))) ⊛ raw (ensured 𝓤 H A build-graph.ended (build-graph.clauses 𝓤 H A at-mem run) (κx, (νy ∷ [], (νz ∷ [], tt))) (x, (n, (at y δy d, (at z δz b, tt)))) tt res)))) (id⊢ 𝓤 _) $ await t tt $ pick t (λ res. split t $ move t (1 ∷ []) $
-      use1 W (some (λ (zs : (Unit {0} × (Unit {0} × (List ℕ × (List ℕ × Unit {0}))))). ‵ (lasts build-graph.ended (κx, (νy ∷ [], (νz ∷ [], tt))) (x, (n, (at y δy d, (at z δz b, tt)))) zs) ⊛ raw (fact 𝓤 (Built n (now x) d b (zs .1 .1 .0) (zs .1 .1 .1 .0) res)))) (id⊢ 𝓤 _) $ pick t (λ zs. split t $ move t (1 ∷ []) $ heard t (Built n (now x) d b (zs .1 .1 .0) (zs .1 .1 .1 .0) res) (λ said.
+      use1 W (some (λ (zs : (Unit {0} × (Unit {0} × (List ℕ × (List ℕ × Unit {0}))))). ‵ (lasts build-graph.ended (κx, (νy ∷ [], (νz ∷ [], tt))) (x, (n, (at y δy d, (at z δz b, tt)))) zs) ⊛ raw (fact 𝓤 (GraphBuilt n (now x) d b (zs .1 .1 .0) (zs .1 .1 .1 .0) res)))) (id⊢ 𝓤 _) $ pick t (λ zs. split t $ move t (1 ∷ []) $ heard t (GraphBuilt n (now x) d b (zs .1 .1 .0) (zs .1 .1 .1 .0) res) (λ said.
       fsplit t $ let-go t $ fsplit t $ let-go t $ fsplit t $ fsplit t $ move t (1 ∷ []) $ feqL t (λ len-y. move t (1 ∷ []) $ fsplit t $ fsplit t $ move t (1 ∷ []) $ feqL t (λ len-z. move t (1 ∷ []) $ let-go t $ move t (2 ∷ []) $ split t $ move t (1 ∷ []) $ facts t (UInt w64) (Is (UInt w64)) (shows 𝓤 H A (UInt w64)) res (v ∷ []) (λ is.
       split t $ move t (1 ∷ []) $ split t $ move t (1 ∷ []) $ split t $ move t (1 ∷ []) $ let-go t $ move t (6 ∷ []) $ let-go t $ move t (5 ∷ []) $ let-go t $ move t (1 ∷ 6 ∷ 4 ∷ []) $ backs t tt u32 κy qy y d long-y room-y νy δy (zs .1 .1 .0) len-y $ move t (2 ∷ 5 ∷ 4 ∷ []) $ backs t tt u8 κz qz z b long-z room-z νz δz (zs .1 .1 .1 .0) len-z $ move t (5 ∷ 4 ∷ 2 ∷ 3 ∷ 0 ∷ 1 ∷ []) $
       regoal t (λ (u : Val). lands C Λ E dst u rest p) (ap only (is .0)) refl $ k res (zs .1 .1 .0) (zs .1 .1 .1 .0) said len-y len-z (subst (Is (UInt w64) res) (is .0) is))))))))))

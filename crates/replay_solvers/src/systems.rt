@@ -63,7 +63,7 @@ fn eliminate(
     words: &mut [u64],
 ) -> Answer {
     if lazy {
-        return lazy_calls::lazy_gaussian_elimination(
+        let built = lazy_calls::lazy_gaussian_elimination(
             n,
             m,
             starts,
@@ -73,8 +73,19 @@ fn eliminate(
             numbers,
             words,
         );
+        return built.answer;
     }
-    sparse::gaussian_elimination(n, m, starts, vars, constants, solution, numbers, words)
+    let built = sparse::gaussian_elimination(
+        n,
+        m,
+        starts,
+        vars,
+        constants,
+        solution,
+        numbers,
+        words,
+    );
+    built.answer
 }
 
 fn system_lent(

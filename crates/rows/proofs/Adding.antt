@@ -1,7 +1,7 @@
 -- What `add_rows` asks for and leaves, in the values that it reads.
 use mathlib.Core.Path.{_≡_, refl, sym, ap, ap₂, _∙_, subst}
 use mathlib.Core.List.{List, [], _∷_}
-use Prim.Native.Nat.{ℕ, _+_, _*_, _≤_, _<_}
+use Prim.Native.Nat.{ℕ, _+_, _-_, _*_, _≤_, _<_}
 use native.Mathlib.Omega.{arith}
 use lib.ListN.{length, getD, set}
 use lib.Bits.{bitXor}
@@ -11,6 +11,9 @@ use Rattle.areas.proofs.Offsets.{row-before}
 use Rattle.row_sums.specs.AddFits.{AddFits}
 use Rattle.gf2.specs.Equation.{Equation, Rising, symDiff, sum}
 use Rattle.gf2.proofs.SymDiff.{rising-symDiff}
+use Rattle.gf2.proofs.Order.{rising-increasing}
+use Rattle.gf2.specs.Common.{common}
+use Rattle.gf2.proofs.Common.{length-symDiff}
 use Rattle.rows.specs.Picture.{Drawn, rowAt, added}
 use Rattle.rows.proofs.Holding.{rising-narrow, row-rising, row-narrow, row-length, row-front, row-vars, row-constant, scratch-zero, store}
 
@@ -53,6 +56,19 @@ module _ {n m : ℕ} {rows : List Equation} {rest rest′ numbers words : List �
 
     pub sum-short : r ≤ n
     sum-short = omega (arith, long, total-short)
+
+    -- the lengths that were read, and what they say of the sum
+    pub sum-within : r ≤ getD numbers (m * n + n + i) 0 + getD numbers (m * n + n + j) 0
+    unfolding total
+    sum-within =
+        let a = length-symDiff (rowAt rows i .vars) (rowAt rows j .vars) (rising-increasing 0 n (rowAt rows i .vars) (row-rising d i i-in)) (rising-increasing 0 n (rowAt rows j .vars) (row-rising d j l)) in
+        omega (arith, long, row-length d i i-in, row-length d j l)
+
+    pub sum-falls : (fallen : ℕ) → fallen + (getD numbers (m * n + n + i) 0 + getD numbers (m * n + n + j) 0) - r ≡ fallen + 2 * common (rowAt rows i .vars) (rowAt rows j .vars)
+    unfolding total
+    sum-falls fallen =
+        let a = length-symDiff (rowAt rows i .vars) (rowAt rows j .vars) (rising-increasing 0 n (rowAt rows i .vars) (row-rising d i i-in)) (rising-increasing 0 n (rowAt rows j .vars) (row-rising d j l)) in
+        omega (arith, long, row-length d i i-in, row-length d j l)
 
     pub add-done : (numbers′ : List ℕ)
         → numbers′ ≡ put (i * n) (padded n (symDiff (stretch (i * n) (getD numbers (m * n + n + i) 0) numbers) (stretch (j * n) (getD numbers (m * n + n + j) 0) numbers))) numbers

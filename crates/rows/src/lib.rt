@@ -1,10 +1,11 @@
 // A system's rows in lent memory: m rows of n numbers, a scratch row, m lengths; the constants in the words.
 ghost use mathlib.Core.Path.{_≡_};
-ghost use Prim.Native.Nat.{_+_, _*_, _≤_, _<_};
+ghost use Prim.Native.Nat.{_+_, _*_, _^_, _≤_, _<_};
 ghost use lib.ListN.{length, set};
 ghost use Rattle.areas.specs.Stretch.{cleared, zeroed};
 ghost use Rattle.answers.specs.Sizes.{maxVariables, sparseNumbers, sparseWords};
 ghost use Rattle.gf2.specs.Equation.{eqn, Rising};
+ghost use Rattle.gf2.specs.Common.{common};
 ghost use Rattle.rows.specs.Padding.{PaddedRows};
 ghost use Rattle.rows.specs.Picture.{Longer, Held, Became, rowsOf, rowAt, swapped, added};
 
@@ -94,15 +95,26 @@ pub fn swap_rows(numbers: &mut [u32], words: &mut [u64], n: usize, m: usize, i: 
     front::exchange_front(numbers, i * n, j * n, k, n);
 }
 
-// Row `i` becomes its sum with row `j`.
-pub fn add_rows(numbers: &mut [u32], words: &mut [u64], n: usize, m: usize, i: usize, j: usize)
-    requires { ⌜ Held n m (now numbers) (now words) × (i < j) × (j < m) × (n ≤ maxVariables) ⌝ }
+// Row `i` becomes its sum with row `j`. Returns `fallen` and what fell away: two for each variable that both had, by the lengths.
+pub fn add_rows(
+    numbers: &mut [u32],
+    words: &mut [u64],
+    n: usize,
+    m: usize,
+    i: usize,
+    j: usize,
+    fallen: u64,
+) -> u64
+    requires { ⌜ Held n m (now numbers) (now words) × (i < j) × (j < m) × (n ≤ maxVariables) × (fallen ≤ 2 ^ 63) ⌝ }
     ensures { λ _. ⌜ Became n m (now (numbers .entry)) (now (words .entry)) (added i j (rowsOf n m (now (numbers .entry)) (now (words .entry)))) (now (numbers .exit)) (now (words .exit)) ⌝ }
+    ensures { λ r. ⌜ r ≡ fallen + 2 * common (rowAt (rowsOf n m (now (numbers .entry)) (now (words .entry))) i .vars) (rowAt (rowsOf n m (now (numbers .entry)) (now (words .entry))) j .vars) ⌝ }
 {
     let lens = m * n + n;
-    let li = numbers[lens + i] as usize;
-    let lj = numbers[lens + j] as usize;
-    let k = row_sums::add_into(numbers, n, i * n, li, j * n, lj, m * n);
+    let li = numbers[lens + i];
+    let lj = numbers[lens + j];
+    let both = li + lj;
+    let k = row_sums::add_into(numbers, n, i * n, li as usize, j * n, lj as usize, m * n);
     numbers[lens + i] = k as u32;
     words[i] = words[i] ^ words[j];
+    fallen + both as u64 - k as u64
 }

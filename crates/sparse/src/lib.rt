@@ -1,13 +1,17 @@
 // Sparse Gaussian elimination over two elements, on lent memory.
 use answers::Answer;
+use answers::Built;
 use answers::Rules;
 ghost use mathlib.Core.Path.{_≡_};
+ghost use Rattle.answers.specs.Reported.{reported};
+ghost use Rattle.system.specs.System.{equations};
 ghost use Rattle.sparse_rules.specs.SparseCall.{sparseCall};
+ghost use Rattle.sparse_rules.specs.Cancelled.{sparseCancels};
 
 mod load;
 mod solve;
 
-// Solves a sparse system of `m` equations in `n` variables.
+// Solves a sparse system of `m` equations in `n` variables. Tells how many variables cancelled in its sums.
 pub fn gaussian_elimination(
     n: usize,
     m: usize,
@@ -17,23 +21,24 @@ pub fn gaussian_elimination(
     solution: &mut [u64],
     numbers: &mut [u32],
     words: &mut [u64],
-) -> Answer
-    ensures { λ r. ⌜ r ≡ sparseCall n m (now (starts .entry)) (now (vars .entry)) (now (constants .entry)) (now (solution .entry)) (now (numbers .entry)) (now (words .entry)) .answer ⌝ }
+) -> Built
+    ensures { λ r. ⌜ r .answer ≡ sparseCall n m (now (starts .entry)) (now (vars .entry)) (now (constants .entry)) (now (solution .entry)) (now (numbers .entry)) (now (words .entry)) .answer ⌝ }
     ensures { λ _. ⌜ now (solution .exit) ≡ sparseCall n m (now (starts .entry)) (now (vars .entry)) (now (constants .entry)) (now (solution .entry)) (now (numbers .entry)) (now (words .entry)) .solution ⌝ }
     ensures { λ _. ⌜ now (numbers .exit) ≡ sparseCall n m (now (starts .entry)) (now (vars .entry)) (now (constants .entry)) (now (solution .entry)) (now (numbers .entry)) (now (words .entry)) .numbers ⌝ }
     ensures { λ _. ⌜ now (words .exit) ≡ sparseCall n m (now (starts .entry)) (now (vars .entry)) (now (constants .entry)) (now (solution .entry)) (now (numbers .entry)) (now (words .entry)) .words ⌝ }
+    ensures { λ r. ⌜ r .cancelled ≡ reported (sparseCall n m (now (starts .entry)) (now (vars .entry)) (now (constants .entry)) (now (solution .entry)) (now (numbers .entry)) (now (words .entry)) .answer) (sparseCancels (equations m (now (starts .entry)) (now (vars .entry)) (now (constants .entry)))) ⌝ }
 {
     match system::rules(n, m, starts, vars, constants) {
-        Rules::Broken(answer) => answer,
+        Rules::Broken(answer) => Built::refused(answer),
         Rules::Kept => {
             if solution.len() != n {
-                return Answer::WrongSolution;
+                return Built::refused(Answer::WrongSolution);
             }
             if numbers.len() < answers::sparse_numbers(n, m) {
-                return Answer::ShortArea;
+                return Built::refused(Answer::ShortArea);
             }
             if words.len() < m {
-                return Answer::ShortArea;
+                return Built::refused(Answer::ShortArea);
             }
             solve::run(n, m, starts, vars, constants, solution, numbers, words)
         }

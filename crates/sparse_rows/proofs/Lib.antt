@@ -4,3 +4,6 @@ pub mod Forward
 pub mod Rounds
 pub mod Passing
 pub mod Solving
+pub mod Counts
+pub mod Fallen
+pub mod Ahead

@@ -65,7 +65,7 @@ place-behind front mid j unsolvable = refl
 place-behind front mid j (ok p) = ap {B = Result (List Equation)} ok (simp append-assoc)
 
 module _ (front mid : List Equation) (i : Equation) (rest : List Equation) where
-  at-i : rowAt (front ++ i ∷ mid ++ rest) (length front) ≡ i
+  pub at-i : rowAt (front ++ i ∷ mid ++ rest) (length front) ≡ i
   at-i = List·getD-append (front ++ i ∷ mid) rest (eqn [] 0) (length front) (rw length-append (omega arith)) ∙ getD-append-seam front i mid (eqn [] 0)
 
   set-i : (i′ : Equation) → set (front ++ i ∷ mid ++ rest) (length front) i′ ≡ front ++ i′ ∷ mid ++ rest
@@ -73,16 +73,16 @@ module _ (front mid : List Equation) (i : Equation) (rest : List Equation) where
 
 -- the row at the seam
 module _ (front : List Equation) (j : Equation) (rest : List Equation) where
-  at-j : rowAt (front ++ j ∷ rest) (length front) ≡ j
+  pub at-j : rowAt (front ++ j ∷ rest) (length front) ≡ j
   at-j = getD-append-seam front j rest (eqn [] 0)
 
   set-j : (j′ : Equation) → set (front ++ j ∷ rest) (length front) j′ ≡ front ++ j′ ∷ rest
   set-j j′ = set-append-seam front j rest j′
 
-next-j : (front mid : List Equation) (i i′ j′ : Equation) → suc (length (front ++ i ∷ mid)) ≡ length (front ++ i′ ∷ (mid ++ j′ ∷ []))
+pub next-j : (front mid : List Equation) (i i′ j′ : Equation) → suc (length (front ++ i ∷ mid)) ≡ length (front ++ i′ ∷ (mid ++ j′ ∷ []))
 next-j front mid i i′ j′ = simp length-append (omega arith)
 
-next-rows : (front mid : List Equation) (i i′ j j′ : Equation) (rest : List Equation)
+pub next-rows : (front mid : List Equation) (i i′ j j′ : Equation) (rest : List Equation)
     → set (set (front ++ i ∷ mid ++ j ∷ rest) (length front) i′) (length (front ++ i ∷ mid)) j′ ≡ front ++ i′ ∷ (mid ++ j′ ∷ []) ++ rest
 next-rows front mid i i′ j j′ rest =
     let same : length (front ++ i ∷ mid) ≡ length (front ++ i′ ∷ mid) = simp length-append in
@@ -160,24 +160,24 @@ module _ (d i : ℕ) (full : List Equation) (h : i < d) (g : d ≤ length full) 
   d-long : length (take d full) ≡ d
   d-long = length-take-le d full g
 
-  front : List Equation
+  pub front : List Equation
   front = take i (take d full)
 
-  rest : List Equation
+  pub rest : List Equation
   rest = drop (suc i) (take d full)
 
-  row : Equation
+  unfoldable pub row : Equation
   row = rowAt full i
 
-  front-long : length front ≡ i
+  pub front-long : length front ≡ i
   unfolding front
   front-long = length-take-le i (take d full) (omega (arith, d-long))
 
-  rest-long : length rest ≡ d - (i + 1)
+  pub rest-long : length rest ≡ d - (i + 1)
   unfolding rest
   rest-long = rw (length-drop, d-long) (omega arith)
 
-  split : take d full ≡ front ++ row ∷ rest
+  pub split : take d full ≡ front ++ row ∷ rest
   unfolding front rest row
   split = split-at (take d full) i (eqn [] 0) (omega (arith, d-long)) ∙ ap (λ (e : Equation). take i (take d full) ++ e ∷ drop (suc i) (take d full)) (getD-take d full i (eqn [] 0) h)
 
@@ -189,7 +189,7 @@ module _ (d i : ℕ) (full : List Equation) (h : i < d) (g : d ≤ length full) 
   unfolding row
   outer-wrong e z = ap₂ outerRow (sym front-long) split ∙ outer-wrong-at front (row .vars) (row .c) rest e z
 
-  whole : full ≡ front ++ row ∷ [] ++ (rest ++ drop d full)
+  pub whole : full ≡ front ++ row ∷ [] ++ (rest ++ drop d full)
   whole = sym (take-append-drop d full) ∙ ap (λ (l : List Equation). l ++ drop d full) split ∙ simp append-assoc
 
   pub outer-loop : length (rowAt full i .vars) ≢ 0 → meetLoop (d - (i + 1)) i (i + 1) full ≡ followed (drop d full) (outerRow i (take d full))

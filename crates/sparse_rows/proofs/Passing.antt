@@ -10,17 +10,22 @@ use Rattle.gf2.specs.Equation.{Equation, eqn}
 use Rattle.answers.specs.Sizes.{sparseNumbers, sparseWords}
 use Rattle.rows.specs.Picture.{Held, Became, rowsOf, rowAt, swapped}
 use Rattle.rows.proofs.Holding.{row-narrow, row-first, held}
+use Rattle.sparse_rules.specs.Eliminate.{meeting}
 use Rattle.sparse_rows.specs.Loop.{meetLoop, StandsAt}
-use Rattle.sparse_rows.specs.Reduce.{Alike, Passes}
+use Rattle.sparse_rows.specs.Counts.{ahead}
+use Rattle.sparse_rows.specs.Reduce.{Alike, Passes, MeetsRows}
+use Rattle.sparse_rows.specs.declared.echelon.Met.the-variants.{Both}
 use Rattle.sparse_rows.proofs.Forward.{full, row-in, meet-pass, meet-swap}
 use Rattle.sparse_rows.proofs.Rounds.{stands-turn, stands-filled}
+use Rattle.sparse_rows.proofs.Ahead.{apart-cost, ahead-turn}
 
--- u is what row i begins with; row i has met the rows from j up to k, and where k is j, nothing was written
+-- u is what row i begins with; row i has met the rows from j up to k, without a sum, and where k is j, nothing was written
 pub record Passing (n m d i j : ℕ) (numbers₀ words₀ numbers words : List ℕ) (u k : ℕ) : Type 0 where
   pub stands : StandsAt n m d i (meetLoop (d - j) i j (rowsOf n m numbers₀ words₀)) (drop (sparseNumbers n m) numbers₀) (drop (sparseWords m) words₀) numbers words k
   pub first : u ≡ getD numbers (i * n) 0
   pub from : j ≤ k
   pub still : k ≡ j → numbers ≡ numbers₀
+  pub counts : ahead n m d i numbers words k ≡ ahead n m d i numbers₀ words₀ j
 
 pub passing-begin : {n m d i j : ℕ} {numbers words : List ℕ} → Held n m numbers words → i < j → j ≤ d → d ≤ m → getD numbers (m * n + n + i) 0 ≢ 0
     → Passing n m d i j numbers words numbers words (getD numbers (i * n) 0) j
@@ -30,6 +35,7 @@ passing-begin {n} {m} {i = i} {numbers = numbers} {words} k h g l f =
       first = refl;
       from = omega arith;
       still = λ _. refl;
+      counts = refl;
     }
 
 module _ {n m d i j : ℕ} {numbers₀ words₀ numbers words : List ℕ} {u k : ℕ} (s : Passing n m d i j numbers₀ words₀ numbers words u k) where
@@ -53,6 +59,14 @@ module _ {n m d i j : ℕ} {numbers₀ words₀ numbers words : List ℕ} {u k :
     pub passing-in : k * n < length numbers
     passing-in = row-in passing-held k k-in
 
+    -- a meeting of rows that begin apart cancels nothing
+    onward : {numbers′ words′ : List ℕ} → getD numbers (i * n) 0 ≢ getD numbers (k * n) 0 → MeetsRows meeting n m i k numbers words numbers′ words′ Both
+        → ahead n m d i numbers′ words′ (k + 1) ≡ ahead n m d i numbers₀ words₀ j
+    onward {numbers′} {words′} ne q =
+        let a = ahead-turn passing-held (s .stands .i-below) h (s .stands .d-in) q refl in
+        let b = apart-cost passing-held i k (s .stands .i-below) k-in (stands-filled (s .stands)) ne in
+        omega (arith, s .counts)
+
     pub passing-above : u < getD numbers (k * n) 0 → Passing n m d i j numbers₀ words₀ numbers words u (k + 1)
     passing-above l =
         record {
@@ -60,6 +74,7 @@ module _ {n m d i j : ℕ} {numbers₀ words₀ numbers words : List ℕ} {u k :
           first = s .first;
           from = omega (arith, s .from);
           still = λ e. absurd (omega (arith, s .from));
+          counts = onward (omega (arith, s .first)) (meet-pass passing-held i k (s .stands .i-below) k-in (stands-filled (s .stands)) (omega (arith, s .first)));
         }
 
     module _ (l : getD numbers (k * n) 0 < u) (f : getD numbers (m * n + n + k) 0 ≢ 0) where
@@ -74,6 +89,7 @@ module _ {n m d i j : ℕ} {numbers₀ words₀ numbers words : List ℕ} {u k :
             first = row-first passing-held k k-in wide ∙ sym (row-first b i i-in wide ∙ ap (λ (e : Equation). getD (e .vars) 0 0) now-i);
             from = omega (arith, s .from);
             still = λ e. absurd (omega (arith, s .from));
+            counts = onward (omega (arith, s .first)) (meet-swap passing-held i k (s .stands .i-below) k-in f (stands-filled (s .stands)) (omega (arith, s .first)) numbers′ words′ b);
           }
         where
           now-i : rowAt (swapped i k (rowsOf n m numbers words)) i ≡ rowAt (rowsOf n m numbers words) k

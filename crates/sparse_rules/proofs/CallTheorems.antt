@@ -1,20 +1,26 @@
--- The theorems of sparse elimination, of its public call: what the solution slice holds after 0, and when the answer is 6.
+-- The theorems of sparse elimination, of its public call: what the solution slice holds after 0, when the answer is 6, and what is told of the sums.
 use mathlib.Core.Path.{_≡_}
 use mathlib.Core.Logic.{_↔_}
 use mathlib.Core.Bool.{Bool, true}
 use mathlib.Core.List.{List}
-use Prim.Native.Nat.{ℕ, _<_, _^_}
+use Prim.Native.Nat.{ℕ, _*_, _≤_, _<_, _^_}
 use lib.ListN.{length, getD}
 use Rattle.gf2.specs.Equation.{Each, MeetsAll}
 use Rattle.gf2.specs.Span.{Cancels}
 use Rattle.gf2.specs.Canonical.{Canonical}
 use Rattle.gf2.specs.Ours.{Apart, ourPart}
 use Rattle.answers.specs.Calls.{Call}
-use Rattle.answers.specs.Sizes.{sparseNumbers, sparseWords}
+use Rattle.answers.specs.Reported.{reported}
+use Rattle.answers.specs.Sizes.{maxVariables, maxEquations, sparseNumbers, sparseWords}
 use Rattle.answers.specs.declared.Answer.the-variants.{Solved, Unsolvable}
+use Rattle.answers.proofs.Reported.{Reports, call-reports, call-reports-le}
+use Rattle.system.specs.System.{systemRules}
+use Rattle.system.proofs.Soundness.{kept-sound, rules-early}
 use Rattle.system.proofs.SolverCalls.{Lent, system, Runs, solved, call-solves, call-exact, call-narrow, call-isolated}
 use Rattle.sparse_rules.specs.Eliminate.{gaussianElimination}
+use Rattle.sparse_rules.specs.Cancelled.{sparseCancels}
 use Rattle.sparse_rules.specs.SparseCall.{sparseCall}
+use Rattle.sparse_rules.proofs.Cancelled.{sparse-fits}
 use Rattle.sparse_rules.proofs.Theorems.{sparse-solves, sparse-exact, sparse-narrow, sparse-isolated, sparse-canonical}
 
 abbrev numbersRoom : ℕ → ℕ → ℕ → ℕ
@@ -53,3 +59,24 @@ pub sparseCall-isolated : (P : ℕ → Bool) (n : ℕ) (a b : Lent) → Apart P 
     → sparseOn n a .answer ≡ Solved → sparseOn n b .answer ≡ Solved → (v : ℕ) → P v ≡ true → getD (sparseOn n a .solution) v 0 ≡ getD (sparseOn n b .solution) v 0
 unfolding sparseCall
 sparseCall-isolated P n a b = call-isolated gaussianElimination numbersRoom wordsRoom sparse-solves sparse-exact sparse-narrow sparse-isolated P n a b
+
+-- what the call on what is lent tells of its sums
+abbrev pub sparseTold : ℕ → Lent → ℕ
+sparseTold n l = reported (sparseOn n l .answer) (sparseCancels (system l))
+
+-- 0 after 1 to 5; after 0 and 6 how many variables cancelled in the sums of the rules' own steps
+pub sparse-cancelled : (n : ℕ) (l : Lent) → Reports (sparseCancels (system l)) (sparseOn n l .answer) (sparseTold n l)
+unfolding sparseCall
+sparse-cancelled n l =
+    call-reports n (sparseNumbers n (l .m)) (sparseWords (l .m)) (gaussianElimination n (system l)) (l .solution) (l .numbers) (l .words) (sparseCancels (system l))
+    (systemRules n (l .m) (l .starts) (l .vars) (l .constants)) (rules-early n (l .m) (l .starts) (l .vars) (l .constants))
+
+-- .. and 64 bits hold it
+pub sparse-cancelled-fits : (n : ℕ) (l : Lent) → sparseTold n l ≤ maxEquations * (maxEquations * maxVariables)
+unfolding sparseCall
+sparse-cancelled-fits n l =
+    call-reports-le n (sparseNumbers n (l .m)) (sparseWords (l .m)) (gaussianElimination n (system l)) (l .solution) (l .numbers) (l .words) (sparseCancels (system l))
+    (systemRules n (l .m) (l .starts) (l .vars) (l .constants)) (rules-early n (l .m) (l .starts) (l .vars) (l .constants))
+    (λ kept.
+    let f = kept-sound n (l .m) (l .starts) (l .vars) (l .constants) kept in
+    sparse-fits n (system l) (f .each-rising) (f .few-variables) (rw (f .many) (f .few-equations)))

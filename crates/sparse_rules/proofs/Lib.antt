@@ -1,5 +1,6 @@
 pub mod Meetings
 pub mod OuterRow
+pub mod Cancelled
 pub mod BackSub
 pub mod Theorems
 pub mod Examples

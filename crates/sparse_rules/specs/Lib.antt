@@ -1,2 +1,3 @@
 pub mod Eliminate
+pub mod Cancelled
 pub mod SparseCall

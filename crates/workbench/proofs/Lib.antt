@@ -4,3 +4,4 @@ pub mod ByPeeling
 pub mod ByDense
 pub mod BySum
 pub mod Table
+pub mod Counts

@@ -1,1 +1,1 @@
-// The sums on the workbench: one table, one theorem, no code.
+// The sums on the workbench: one table, one theorem, and what their calls tell of their sums; no code.

@@ -72,6 +72,14 @@ pub fn make_equation(e: &Eq) -> Modulo2Equation<u64> { unsafe { Modulo2Equation:
 pub use vbuilder::{Log, Ready, ready, run};
 pub fn make_system(n: usize, eqs: &[Eq]) -> Modulo2System<u64> { system(n, eqs) }
 
+/// `add`, `gaussian_elimination` and `lazy_gaussian_elimination` of what was made before: compiled in this crate, so that their cost does not depend on the program.
+#[inline(never)]
+pub fn add(to: &mut Modulo2Equation<u64>, from: &Modulo2Equation<u64>) { to.add(from) }
+#[inline(never)]
+pub fn solve(s: &mut Modulo2System<u64>) -> bool { s.gaussian_elimination().is_ok() }
+#[inline(never)]
+pub fn solve_lazily(s: &mut Modulo2System<u64>) -> bool { s.lazy_gaussian_elimination().is_ok() }
+
 /// `XorGraph` of edge numbers, `FastStack` and `DoubleStack` of numbers: each call is the original's.
 pub struct Graph(peeling::XorGraph<u32>);
 impl Graph {

@@ -10,9 +10,11 @@ use native.Mathlib.Omega.{arith}
 use lib.ListN.{length}
 use Rattle.gf2.specs.Equation.{symDiff}
 use Rattle.gf2.proofs.SymDiff.{length-symDiff-le}
+use Rattle.gf2.proofs.Common.{common-half}
 use Rattle.equation.specs.Increase.{rises}
 use Rattle.equation.specs.Sums.{sumCall}
 use Rattle.equation.proofs.Settle.{settle-front}
+use Rattle.equation.proofs.Rise.{rises-increasing}
 use Rattle.equation.proofs.sum.Statement.{statement}
 use Rattle.equation.proofs.sum.Tie as tie
 
@@ -69,7 +71,8 @@ returns-6 c =
     let e = a .before .before .before in
     let i = e .before .before .before in
     let g = a .add-ptr .ensures in
-    simp (settle-front (symDiff (left a) (right a)) _ (length (left a) + length (right a)) (omega (arith, sum-short a, a .before .before .if5 .left)) (g .0) (g .1) (z .zero-numbers .ensures), g .0, le-leb _ _ (i .before .before .if1 .left), le-leb _ _ (i .before .if2 .left), left-rises (e .before .before), right-rises e, le-leb _ _ (a .before .before .if5 .left)) (refl, refl)
+    let shared = common-half (left a) (right a) _ (rises-increasing _ (left-rises (e .before .before))) (rises-increasing _ (right-rises e)) refl in
+    simp (settle-front (symDiff (left a) (right a)) _ (length (left a) + length (right a)) (omega (arith, sum-short a, a .before .before .if5 .left)) (g .0) (g .1) (z .zero-numbers .ensures), g .0, shared, le-leb _ _ (i .before .before .if1 .left), le-leb _ _ (i .before .if2 .left), left-rises (e .before .before), right-rises e, le-leb _ _ (a .before .before .if5 .left)) (refl, refl)
 
 pub sum-spec : {M : Type 1} → statement M
 sum-spec =
@@ -91,5 +94,7 @@ sum-spec =
     (λ c κs. search needs)  -- add-ptr-requires
     (λ c. search needs)  -- add-zero-numbers
     (λ c κs. let h = sum-short (c .before .before .before) in search needs)  -- zero-numbers-requires
+    (λ c. search needs)  -- add-t14
+    (λ c. let a = c .before .before .before .before .before .before in omega (arith, sum-short a, a .add-ptr .ensures .0))  -- sub-t7
     (λ c. search needs)  -- same-length
     returns-6)

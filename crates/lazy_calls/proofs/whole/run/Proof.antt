@@ -33,20 +33,23 @@ build-requires c κs =
 returns : tie.Need-returns
 returns c =
     let p = c .before .before .before .before .before .before .before .before .before .before .before .before .before .before .before .before .before .before .before .before .pre in let a = c .before .before .before .before .before .before .before .before .before .before .before .before .before .before .before .before .before .before .before .before .args in let l = c .before .before .before .before .before .before .before .before .build .last in let e = c .before .before .before .before .before .before .before .before .build .ensures in
-    end-solved _ _ _ (l .1 .1 .1 .1 .1 .0) _ _ _ _ (room-zero _ _ _ (a .numbers .now) (c .before .before .before .before .before .before .before .before .before .before .before .before .before .lazy-numbers .ensures) (p .2) (e .1 .0)) (room-zero _ _ _ (a .words .now) (c .before .before .before .before .before .before .before .before .before .before .before .before .lazy-words .ensures) (p .3) (e .1 .1))
-    (lazyAnswer (a .n) (a .m) (a .starts .now) (a .vars .now) (a .constants .now)) _ (e .0) (c .enum-told .given .1)
+    let q = end-solved _ _ _ (l .1 .1 .1 .1 .1 .0) _ _ _ _ (room-zero _ _ _ (a .numbers .now) (c .before .before .before .before .before .before .before .before .before .before .before .before .before .lazy-numbers .ensures) (p .2) (e .1 .0)) (room-zero _ _ _ (a .words .now) (c .before .before .before .before .before .before .before .before .before .before .before .before .lazy-words .ensures) (p .3) (e .1 .1 .0))
+    (lazyAnswer (a .n) (a .m) (a .starts .now) (a .vars .now) (a .constants .now)) _ (e .0) (c .enum-told .given .1) in
+    (q .0, (q .1 .0, (q .1 .1 .0, (q .1 .1 .1, e .1 .1 .1))))
 
 returns-2 : tie.Need-returns-2
 returns-2 c =
     let p = c .before .before .before .before .before .before .before .before .before .before .before .before .before .before .before .before .before .before .before .before .pre in let a = c .before .before .before .before .before .before .before .before .before .before .before .before .before .before .before .before .before .before .before .before .args in let l = c .before .before .before .before .before .before .before .before .build .last in let e = c .before .before .before .before .before .before .before .before .build .ensures in
-    end-refused _ _ _ (l .1 .1 .1 .1 .1 .0) _ _ _ _ (room-zero _ _ _ (a .numbers .now) (c .before .before .before .before .before .before .before .before .before .before .before .before .before .lazy-numbers .ensures) (p .2) (e .1 .0)) (room-zero _ _ _ (a .words .now) (c .before .before .before .before .before .before .before .before .before .before .before .before .lazy-words .ensures) (p .3) (e .1 .1))
-    (lazyAnswer (a .n) (a .m) (a .starts .now) (a .vars .now) (a .constants .now)) _ (e .0) (c .enum-told2 .given .1)
+    let q = end-refused _ _ _ (l .1 .1 .1 .1 .1 .0) _ _ _ _ (room-zero _ _ _ (a .numbers .now) (c .before .before .before .before .before .before .before .before .before .before .before .before .before .lazy-numbers .ensures) (p .2) (e .1 .0)) (room-zero _ _ _ (a .words .now) (c .before .before .before .before .before .before .before .before .before .before .before .before .lazy-words .ensures) (p .3) (e .1 .1 .0))
+    (lazyAnswer (a .n) (a .m) (a .starts .now) (a .vars .now) (a .constants .now)) _ (e .0) (c .enum-told2 .given .1) in
+    (q .0, (q .1 .0, (q .1 .1 .0, (q .1 .1 .1, e .1 .1 .1))))
 
 returns-3 : tie.Need-returns-3
 returns-3 c =
     let p = c .before .before .before .before .before .before .before .before .before .before .before .before .before .before .before .before .before .before .before .before .pre in let a = c .before .before .before .before .before .before .before .before .before .before .before .before .before .before .before .before .before .before .before .before .args in let l = c .before .before .before .before .before .before .before .before .build .last in let e = c .before .before .before .before .before .before .before .before .build .ensures in
-    end-more _ _ _ (l .1 .1 .1 .1 .1 .0) _ _ _ _ (room-zero _ _ _ (a .numbers .now) (c .before .before .before .before .before .before .before .before .before .before .before .before .before .lazy-numbers .ensures) (p .2) (e .1 .0)) (room-zero _ _ _ (a .words .now) (c .before .before .before .before .before .before .before .before .before .before .before .before .lazy-words .ensures) (p .3) (e .1 .1))
-    (lazyAnswer (a .n) (a .m) (a .starts .now) (a .vars .now) (a .constants .now)) _ _ (e .0) (c .enum-told3 .given .1)
+    let q = end-more _ _ _ (l .1 .1 .1 .1 .1 .0) _ _ _ _ (room-zero _ _ _ (a .numbers .now) (c .before .before .before .before .before .before .before .before .before .before .before .before .before .lazy-numbers .ensures) (p .2) (e .1 .0)) (room-zero _ _ _ (a .words .now) (c .before .before .before .before .before .before .before .before .before .before .before .before .lazy-words .ensures) (p .3) (e .1 .1 .0))
+    (lazyAnswer (a .n) (a .m) (a .starts .now) (a .vars .now) (a .constants .now)) _ _ (e .0) (c .enum-told3 .given .1) in
+    (q .0, (q .1 .0, (q .1 .1 .0, (q .1 .1 .1, e .1 .1 .1))))
 
 pub run-spec : {M : Type 1} → statement M
 run-spec =

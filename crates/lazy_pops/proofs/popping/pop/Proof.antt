@@ -1,7 +1,7 @@
 use Prim.Native.Nat.{ℕ}
 use mathlib.Core.Logic.{_≢_}
 use Prim.Native.Nat.{_≤_}
-use Rattle.lazy_pops.proofs.EquationPop.{first-variable, variable-at, variable-after}
+use Rattle.lazy_pops.proofs.EquationPop.{first-variable, variable-at, variable-after, variable-count}
 use native.Mathlib.Omega.{arith}
 use Rattle.lazy_pops.proofs.popping.pop.Statement.{statement}
 use Rattle.lazy_pops.proofs.popping.pop.Tie as tie
@@ -31,8 +31,11 @@ same-length-3 c = c .before .numbers2 .given
 
 returns-2 : tie.Need-returns-2
 returns-2 c =
-    λ sys s a. let z = c .before .before .before .before .if1 .left in let t = first-variable a z in
-    variable-after a z (t .first) (t .rest) (t .is) _ _ (c .before .before .pop-variable .ensures _ sys s (t .first) (t .rest) (variable-at a z (t .first) (t .rest) (t .is)))
+    let z = c .before .before .before .before .if1 .left in (
+      λ sys s a. let t = first-variable a z in
+          variable-after a z (t .first) (t .rest) (t .is) _ _ (c .before .before .pop-variable .ensures _ sys s (t .first) (t .rest) (variable-at a z (t .first) (t .rest) (t .is))),
+      λ sys s a. variable-count a z,
+    )
 
 pub pop-spec : {M : Type 1} → statement M
 pop-spec =

@@ -1,6 +1,6 @@
 use mathlib.Core.Path.{_∙_}
 use lib.ListN.{length-set}
-use Rattle.lazy_pops.proofs.EquationPop.{first-equation, top-cells, dense-at, solve-at, dense-after, solve-after}
+use Rattle.lazy_pops.proofs.EquationPop.{first-equation, top-cells, dense-at, solve-at, dense-after, solve-after, dense-count, solve-count}
 use native.Mathlib.Omega.{arith}
 use Rattle.lazy_pops.proofs.popping.pop_equation.Statement.{statement}
 use Rattle.lazy_pops.proofs.popping.pop_equation.Tie as tie
@@ -51,9 +51,12 @@ same-length-2 c = c .before .words .given
 
 returns : tie.Need-returns
 returns c =
-    λ sys s a. let t = first-equation a (c .before .before .before .before .before .before .before .before .before .before .before .before .before .before .before .before .before .pre .1) in
-    let z = c .before .before .before .before .before .before .before .if1 .taken in
-    dense-after a (t .first) (t .rest) (t .is) _ _ _ z (c .before .before .before .before .pop-dense .ensures sys s (t .rest) (dense-at a (t .first) (t .rest) (t .is) z))
+    let k = c .before .before .before .before .before .before .before .before .before .before .before .before .before .before .before .before .before .pre .1 in
+    let z = c .before .before .before .before .before .before .before .if1 .taken in (
+      λ sys s a. let t = first-equation a k in
+          dense-after a (t .first) (t .rest) (t .is) _ _ _ z (c .before .before .before .before .pop-dense .ensures sys s (t .rest) (dense-at a (t .first) (t .rest) (t .is) z)),
+      λ sys s a. let t = first-equation a k in dense-count a (t .first) (t .rest) (t .is) z,
+    )
 
 solve-for-requires : tie.Need-solve-for-requires
 solve-for-requires c κs =
@@ -61,16 +64,19 @@ solve-for-requires c κs =
     record { sys = w .0 .sys; s = w .0 .s; es = t .rest; at = solve-at (w .0 .at) (t .first) (t .rest) (t .is) (c .before .before .if1 .left) }
 
 same-length-3 : tie.Need-same-length-3
-same-length-3 c = c .before .before .before .numbers2 .given ∙ simp length-set
+same-length-3 c = c .before .before .before .before .numbers2 .given ∙ simp length-set
 
 same-length-4 : tie.Need-same-length-4
-same-length-4 c = c .before .words2 .given
+same-length-4 c = c .before .before .words2 .given
 
 returns-2 : tie.Need-returns-2
 returns-2 c =
-    λ sys s a. let t = first-equation a (c .before .before .before .before .before .before .before .before .before .before .before .before .before .before .before .before .before .pre .1) in
-    let z = c .before .before .before .before .before .before .before .if1 .left in
-    solve-after a (t .first) (t .rest) (t .is) _ _ _ z (c .before .before .before .before .solve-for .ensures sys s (t .rest) (solve-at a (t .first) (t .rest) (t .is) z))
+    let k = c .before .before .before .before .before .before .before .before .before .before .before .before .before .before .before .before .before .before .pre .1 in
+    let z = c .before .before .before .before .before .before .before .before .if1 .left in
+    let e = c .before .before .before .before .before .solve-for .ensures in (
+      λ sys s a. let t = first-equation a k in solve-after a (t .first) (t .rest) (t .is) _ _ _ z (e .0 sys s (t .rest) (solve-at a (t .first) (t .rest) (t .is) z)),
+      λ sys s a. let t = first-equation a k in solve-count a (t .first) (t .rest) (t .is) z (e .1 sys s (t .rest) (solve-at a (t .first) (t .rest) (t .is) z)),
+    )
 
 pub pop-equation-spec : {M : Type 1} → statement M
 pop-equation-spec =

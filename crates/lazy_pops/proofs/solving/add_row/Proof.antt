@@ -1,5 +1,5 @@
 use lib.ListN.{length-set}
-use Rattle.lazy_pops.proofs.RowSum.{add-cells, add-fits, len-short, add-done}
+use Rattle.lazy_pops.proofs.RowSum.{add-cells, add-fits, len-short, len-within, len-shares, add-done}
 use native.Mathlib.Omega.{arith}
 use Rattle.lazy_pops.proofs.solving.add_row.Statement.{statement}
 use Rattle.lazy_pops.proofs.solving.add_row.Tie as tie
@@ -73,8 +73,14 @@ same-length c = simp length-set (c .before .before .before .numbers .given)
 same-length-2 : tie.Need-same-length-2
 same-length-2 c = simp length-set
 
+add-result : tie.Need-add-result
+add-result c = let b = add-cells (c .before .before .before .before .before .before .before .before .before .before .pre .at) in omega arith
+
+sub-result : tie.Need-sub-result
+sub-result c = let b = len-within (c .before .before .before .before .before .before .before .before .before .before .pre .at) (c .before .before .before .before .add-into .ensures) in omega arith
+
 returns : tie.Need-returns
-returns c = λ m layout sys s a. add-done a (c .before .before .before .before .add-into .ensures)
+returns c = (λ m layout sys s a. add-done a (c .before .before .before .before .add-into .ensures), λ m layout sys s a. len-shares a (c .before .before .before .before .add-into .ensures))
 
 pub add-row-spec : {M : Type 1} → statement M
 add-row-spec =
@@ -101,6 +107,8 @@ add-row-spec =
     slice-read-words-2
     mul-words-3
     slice-write-words
+    add-result
+    sub-result
     same-length
     same-length-2
     returns)

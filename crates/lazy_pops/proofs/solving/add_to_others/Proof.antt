@@ -49,7 +49,7 @@ same-length-2 : tie.Need-same-length-2
 same-length-2 c = c .before .words .given
 
 returns : tie.Need-returns
-returns c = λ sys s a. c .before .before .before .before .add-listed .ensures _ _ sys s _ (others-fit a)
+returns c = (λ sys s a. c .before .before .before .before .add-listed .ensures .0 _ _ sys s _ (others-fit a), λ sys s a. c .before .before .before .before .add-listed .ensures .1 _ _ sys s _ (others-fit a))
 
 pub add-to-others-spec : {M : Type 1} → statement M
 add-to-others-spec =

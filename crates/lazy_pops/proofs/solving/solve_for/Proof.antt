@@ -1,6 +1,6 @@
 use mathlib.Core.Path.{_∙_}
 use Prim.Native.Nat.{_+_}
-use Rattle.lazy_pops.proofs.SolvePop.{row-cells, row-fits, solved-at, others-at, lower-at, solve-done}
+use Rattle.lazy_pops.proofs.SolvePop.{row-cells, row-fits, solved-at, others-at, lower-at, solve-count, solve-done}
 use native.Mathlib.Omega.{arith}
 use borrow.Author.Needs.{needs}
 use Rattle.lazy_pops.proofs.solving.solve_for.Statement.{statement}
@@ -40,7 +40,7 @@ lower-listed-requires : tie.Need-lower-listed-requires
 lower-listed-requires c κs =
     let w = c .before .before .before .before .before .before .before .before .before .before .before .before .before .before .before .before .before .before .before .pre in
     let q = c .before .before .before .before .before .before .before .before .before .before .before .before .before .first-idle .ensures in
-    let o = c .before .before .before .before .before .before .add-to-others .ensures (w .sys) _ (others-at (w .at) q (c .before .before .before .before .before .before .before .before .before .before .before .record-solved .ensures _ _ (w .sys) _ (solved-at (w .at) q))) in
+    let o = c .before .before .before .before .before .before .add-to-others .ensures .0 (w .sys) _ (others-at (w .at) q (c .before .before .before .before .before .before .before .before .before .before .before .record-solved .ensures _ _ (w .sys) _ (solved-at (w .at) q))) in
     record { n = c .before .before .before .before .before .before .before .before .before .before .before .before .before .before .before .before .before .before .before .args .n; sys = w .sys; s = _; at = lower-at (w .at) q o }
 
 same-length : tie.Need-same-length
@@ -50,11 +50,15 @@ same-length-2 : tie.Need-same-length-2
 same-length-2 c = c .before .before .before .before .before .before .words .given
 
 returns : tie.Need-returns
-returns c =
-    λ sys s es a.
-    let q = c .before .before .before .before .before .before .before .before .before .before .before .before .before .before .before .before .first-idle .ensures in
-    let o = c .before .before .before .before .before .before .before .before .before .add-to-others .ensures sys _ (others-at a q (c .before .before .before .before .before .before .before .before .before .before .before .before .before .before .record-solved .ensures _ _ sys _ (solved-at a q))) in
-    solve-done a q o (c .before .before .lower-listed .ensures _ sys _ (lower-at a q o))
+returns c = (
+  λ sys s es a.
+      let q = c .before .before .before .before .before .before .before .before .before .before .before .before .before .before .before .before .first-idle .ensures in
+      let o = c .before .before .before .before .before .before .before .before .before .add-to-others .ensures .0 sys _ (others-at a q (c .before .before .before .before .before .before .before .before .before .before .before .before .before .before .record-solved .ensures _ _ sys _ (solved-at a q))) in
+      solve-done a q o (c .before .before .lower-listed .ensures _ sys _ (lower-at a q o)),
+  λ sys s es a.
+      let q = c .before .before .before .before .before .before .before .before .before .before .before .before .before .before .before .before .first-idle .ensures in
+      solve-count a q (c .before .before .before .before .before .before .before .before .before .add-to-others .ensures .1 sys _ (others-at a q (c .before .before .before .before .before .before .before .before .before .before .before .before .before .before .record-solved .ensures _ _ sys _ (solved-at a q)))),
+)
 
 pub solve-for-spec : {M : Type 1} → statement M
 solve-for-spec =

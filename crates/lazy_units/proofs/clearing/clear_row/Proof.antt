@@ -1,4 +1,4 @@
-use Rattle.lazy_units.proofs.ClearRow.{clear-fits, clear-refused, clear-more}
+use Rattle.lazy_units.proofs.ClearRow.{clear-fits, clear-refused, clear-more, clear-count}
 use native.Mathlib.Omega.{arith}
 use borrow.Author.Needs.{needs}
 use Rattle.lazy_units.proofs.clearing.clear_row.Statement.{statement}
@@ -17,7 +17,7 @@ same-length-2 : tie.Need-same-length-2
 same-length-2 c = c .before .before .before .words .given
 
 returns : tie.Need-returns
-returns c = λ sys s a. clear-refused a (c .before .before .before .before .before .before .clear-dense .ensures) (c .enum-told .given .1)
+returns c = let q = c .before .before .before .before .before .before .clear-dense .ensures in (λ sys s a. clear-refused a (q .0) (c .enum-told .given .1), λ sys s a. clear-count a (q .1))
 
 same-length-3 : tie.Need-same-length-3
 same-length-3 c = c .before .before .before .before .before .before .numbers .given
@@ -26,7 +26,7 @@ same-length-4 : tie.Need-same-length-4
 same-length-4 c = c .before .before .before .before .words .given
 
 returns-2 : tie.Need-returns-2
-returns-2 c = λ sys s a. clear-more a (c .before .before .before .before .before .before .before .clear-dense .ensures) (c .before .enum-told2 .given .1)
+returns-2 c = let q = c .before .before .before .before .before .before .before .clear-dense .ensures in (λ sys s a. clear-more a (q .0) (c .before .enum-told2 .given .1), λ sys s a. clear-count a (q .1))
 
 pub clear-row-spec : {M : Type 1} → statement M
 clear-row-spec =

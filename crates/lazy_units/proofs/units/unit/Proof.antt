@@ -1,4 +1,4 @@
-use Rattle.lazy_units.proofs.UnitCases.{pop-at, pop-gone, done-fits, clear-at, clear-gone, last-gone}
+use Rattle.lazy_units.proofs.UnitCases.{pop-at, pop-gone, done-fits, clear-at, clear-gone, last-gone, pop-counted, clear-counted, last-counted}
 use native.Mathlib.Omega.{arith}
 use borrow.Author.Needs.{needs}
 use Rattle.lazy_units.proofs.units.unit.Statement.{statement}
@@ -14,7 +14,7 @@ same-length-2 : tie.Need-same-length-2
 same-length-2 c = c .before .words .given
 
 returns : tie.Need-returns
-returns c = λ sys s a. let z = c .before .before .before .before .before .before .before .if1 .taken in pop-gone a _ _ _ z (c .before .before .before .before .pop .ensures sys s (pop-at a z))
+returns c = let z = c .before .before .before .before .before .before .before .if1 .taken in let e = c .before .before .before .before .pop .ensures in (λ sys s a. pop-gone a _ _ _ z (e .0 sys s (pop-at a z)), λ sys s a. pop-counted a z (e .1 sys s (pop-at a z)))
 
 add-if2 : tie.Need-add-if2
 add-if2 c = let b = done-fits (c .before .before .before .before .before .before .pre .at) in omega arith
@@ -29,7 +29,7 @@ same-length-4 : tie.Need-same-length-4
 same-length-4 c = c .before .words2 .given
 
 returns-2 : tie.Need-returns-2
-returns-2 c = λ sys s a. let z = c .before .before .before .before .before .before .before .before .before .before .if1 .left in let h = c .before .before .before .before .before .before .before .if2 .taken in clear-gone a _ _ _ z h (c .before .before .before .before .clear-row .ensures sys s (clear-at a z h))
+returns-2 c = let z = c .before .before .before .before .before .before .before .before .before .before .if1 .left in let h = c .before .before .before .before .before .before .before .if2 .taken in let e = c .before .before .before .before .clear-row .ensures in (λ sys s a. clear-gone a _ _ _ z h (e .0 sys s (clear-at a z h)), λ sys s a. clear-counted a z h (e .1 sys s (clear-at a z h)))
 
 finish-requires : tie.Need-finish-requires
 finish-requires c κs = c .before .before .before .before .before .before .before .before .before .before .before .pre
@@ -38,7 +38,7 @@ same-length-7 : tie.Need-same-length-7
 same-length-7 c = c .before .solution .given
 
 returns-3 : tie.Need-returns-3
-returns-3 c = λ sys s a. last-gone a _ _ (c .before .before .before .before .before .before .before .before .before .if1 .left) (c .before .before .before .before .before .before .if2 .left) (c .before .before .finish .ensures sys s a)
+returns-3 c = let z = c .before .before .before .before .before .before .before .before .before .if1 .left in let h = c .before .before .before .before .before .before .if2 .left in (λ sys s a. last-gone a _ _ z h (c .before .before .finish .ensures sys s a), λ sys s a. last-counted a z h)
 
 pub unit-spec : {M : Type 1} → statement M
 unit-spec =

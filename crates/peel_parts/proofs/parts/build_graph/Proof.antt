@@ -15,7 +15,7 @@ use Rattle.peel_parts.proofs.parts.build_graph as self
 use Rattle.peel_parts.proofs.parts.build_graph.Statement as stated
 use Rattle.peel_parts.proofs.parts.build_graph.Code as code
 use Rattle.peel_walks.specs.Walks.{Begins}
-use Rattle.peel_parts.specs.Parts.{Built}
+use Rattle.peel_parts.specs.Parts.{GraphBuilt}
 use Rattle.peel_parts.proofs.PartLaws.{emptied, built}
 
 abbrev stayed : Stays (self.ended .signature .params) (self.ended .kept)
@@ -32,7 +32,7 @@ module _ {M : Type 1} (𝓤 : URA M) (H : Heap 𝓤) (A : Atoms 𝓤) (W : Given
   abbrev Post : Val → SProp 𝓤
   Post = walkOf 𝓤 H A self.ended stayed (self.clauses 𝓤 H A at-mem run) .post bound
 
-  exits : (res : ℕ) (zy : List ℕ) (zz : List ℕ) → (Built n (now x) (now y) (now z) zy zz res) → length zy ≡ length (now y) → length zz ≡ length (now z) → res < 2 ^ 64 → ent 𝓤 (⋆ 𝓤 H A (‵ (Shr Edgeᴿ.the-row κx x) ∷ ‵ (flft κx qx) ∷ ‵ (Mut u32 κy y zy) ∷ ‵ (flft κy qy) ∷ ‵ (Mut u8 κz z zz) ∷ ‵ (flft κz qz) ∷ [])) (Post (vint w64 res))
+  exits : (res : ℕ) (zy : List ℕ) (zz : List ℕ) → (GraphBuilt n (now x) (now y) (now z) zy zz res) → length zy ≡ length (now y) → length zz ≡ length (now z) → res < 2 ^ 64 → ent 𝓤 (⋆ 𝓤 H A (‵ (Shr Edgeᴿ.the-row κx x) ∷ ‵ (flft κx qx) ∷ ‵ (Mut u32 κy y zy) ∷ ‵ (flft κy qy) ∷ ‵ (Mut u8 κz z zz) ∷ ‵ (flft κz qz) ∷ [])) (Post (vint w64 res))
   exits res zy zz e ly lz fits =
       qed W (‵ (Shr Edgeᴿ.the-row κx x) ∷ ‵ (flft κx qx) ∷ ‵ (Mut u32 κy y zy) ∷ ‵ (flft κy qy) ∷ ‵ (Mut u8 κz z zz) ∷ ‵ (flft κz qz) ∷ []) ∵ suffices ! _ (ends-at 𝓤 H A self.ended stayed (self.clauses 𝓤 H A at-mem run) W bound (vint w64 res) res (tt, (tt, (zy, (zz, tt)))) (tt, (tt, (ly, (lz, tt))))) $ says ! e $
       nothing ! $ move ! (6 ∷ 0 ∷ []) $ join ! $ move ! (4 ∷ 0 ∷ []) $ join ! $ move ! (2 ∷ 0 ∷ []) $ join ! $ frame ! $

@@ -40,17 +40,17 @@ pass-rows-spec =
     (λ c. let h = passing-in (c .before .before .loop .inv .0) (c .before .loop-test .taken) in search needs)  -- slice-read-v
     (λ c. search needs)  -- same-length
     (λ c. search needs)  -- same-length-2
-    (λ c. passing-same (c .before .before .before .before .loop .inv .0) (c .before .before .before .loop-test .taken) (c .if2 .taken))  -- returns
+    (λ c. (passing-same (c .before .before .before .before .loop .inv .0) (c .before .before .before .loop-test .taken) (c .if2 .taken), c .before .before .before .before .loop .inv .0 .counts))  -- returns
     (λ c. search needs)  -- add-if3
     (λ c. search needs)  -- mul-if3
     (λ c. search needs)  -- slice-read-if3
     (λ c. search needs)  -- same-length-3
     (λ c. search needs)  -- same-length-4
-    (λ c. passing-empty (c .before .before .before .before .before .before .loop .inv .0) (c .before .before .before .before .before .loop-test .taken) (c .if3 .taken))  -- returns-2
+    (λ c. (passing-empty (c .before .before .before .before .before .before .loop .inv .0) (c .before .before .before .before .before .loop-test .taken) (c .if3 .taken), c .before .before .before .before .before .before .loop .inv .0 .counts))  -- returns-2
     (λ c κs. let l = c .before .before .before .before .before .before .before .before .loop .inv .0 in (passing-held l, l .stands .i-below, k-in l (c .before .before .before .before .before .before .before .loop-test .taken)))  -- swap-rows-requires
     (λ c. search needs)  -- add-k
     (λ c. search needs)  -- loop-less
     (λ c. passed c)  -- loop-again
     (λ c. search needs)  -- same-length-5
     (λ c. search needs)  -- same-length-6
-    (λ c. passing-end (c .before .loop .inv .0) (c .loop-test .left)))
+    (λ c. (passing-end (c .before .loop .inv .0) (c .loop-test .left), c .before .loop .inv .0 .counts)))
