@@ -87,16 +87,16 @@ fn same_rows(a: [u64; 122], b: [u64; 122]) -> bool {
 }
 
 // Counts an answer, which must be one of a run.
-fn counted(tally: &mut [u64; 79], row: usize, answer: Answer)
-    requires { ⌜ row < 7 ⌝ }
+fn counted(tally: &mut [u64; 90], row: usize, answer: Answer)
+    requires { ⌜ row < 8 ⌝ }
 {
     count(tally, row, answer);
     hold(tally, ran(answer));
 }
 
 // Counts an answer, and holds it and its table to the first that sparse gave.
-fn held(tally: &mut [u64; 79], row: usize, first: Came, found: Came)
-    requires { ⌜ row < 7 ⌝ }
+fn held(tally: &mut [u64; 90], row: usize, first: Came, found: Came)
+    requires { ⌜ row < 8 ⌝ }
 {
     let must = first.answer;
     let answer = found.answer;
@@ -106,7 +106,7 @@ fn held(tally: &mut [u64; 79], row: usize, first: Came, found: Came)
 }
 
 // Sparse and dense are held to the first list; whether lazy gave another table is told.
-fn compared(tally: &mut [u64; 79], first: ByEach, again: ByEach) -> bool {
+fn compared(tally: &mut [u64; 90], first: ByEach, again: ByEach) -> bool {
     held(tally, SPARSE, first.sparse, again.sparse);
     held(tally, DENSE, first.sparse, again.dense);
     !same_table(first.lazy, again.lazy)
@@ -114,7 +114,7 @@ fn compared(tally: &mut [u64; 79], first: ByEach, again: ByEach) -> bool {
 
 // The m equations in another order; tells whether lazy gave another table.
 fn reordered(
-    tally: &mut [u64; 79],
+    tally: &mut [u64; 90],
     seen: &mut [u64; 5],
     seed: &mut u64,
     n: usize,
@@ -132,7 +132,7 @@ fn reordered(
 }
 
 // The list that was drawn: dense is held to sparse.
-fn drawn_first(tally: &mut [u64; 79], seen: &mut [u64; 5], first: ByEach) {
+fn drawn_first(tally: &mut [u64; 90], seen: &mut [u64; 5], first: ByEach) {
     let sparse = first.sparse;
     let answer = sparse.answer;
     counted(tally, SPARSE, answer);
@@ -143,7 +143,7 @@ fn drawn_first(tally: &mut [u64; 79], seen: &mut [u64; 5], first: ByEach) {
 
 // Other orders of the m equations, and then one of them listed twice.
 fn in_orders(
-    tally: &mut [u64; 79],
+    tally: &mut [u64; 90],
     seen: &mut [u64; 5],
     seed: &mut u64,
     n: usize,
@@ -165,7 +165,7 @@ fn in_orders(
     count_if(seen, LAZY_TWICE, changed);
 }
 
-fn system(tally: &mut [u64; 79], seen: &mut [u64; 5], seed: &mut u64, n: usize, m: usize)
+fn system(tally: &mut [u64; 90], seen: &mut [u64; 5], seed: &mut u64, n: usize, m: usize)
     requires { ⌜ (n ≤ 80) × (m ≤ 60) ⌝ }
 {
     let drawn = draw(seed, n, m);
@@ -176,7 +176,7 @@ fn system(tally: &mut [u64; 79], seen: &mut [u64; 5], seed: &mut u64, n: usize, 
     in_orders(tally, seen, seed, n, m, &mut rows, &mut constants, first);
 }
 
-pub fn systems(tally: &mut [u64; 79], seen: &mut [u64; 5], seed: &mut u64) {
+pub fn systems(tally: &mut [u64; 90], seen: &mut [u64; 5], seed: &mut u64) {
     let mut k: usize = 0;
     while k < SYSTEMS {
         let m = below(seed, 61);
