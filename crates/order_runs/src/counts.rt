@@ -36,6 +36,8 @@ fn tally_lines(tally: &[u64; 90]) {
     line(b"sparse 6: ", tally[6]);
     line(b"dense 0: ", tally[11]);
     line(b"dense 6: ", tally[17]);
+    line(b"slow 0: ", tally[77]);
+    line(b"slow 6: ", tally[83]);
     line(b"comparisons: ", tally[COMPARED]);
     line(b"disagreements: ", tally[DIFFERENT]);
 }

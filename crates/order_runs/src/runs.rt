@@ -15,6 +15,7 @@ use crate::solving::Came;
 use crate::solving::solve;
 use answers::Answer;
 use bench_checks::tally::DENSE;
+use bench_checks::tally::SLOW;
 use bench_checks::tally::SPARSE;
 use bench_checks::tally::count;
 use bench_checks::tally::hold;
@@ -105,10 +106,11 @@ fn held(tally: &mut [u64; 90], row: usize, first: Came, found: Came)
     hold(tally, same_table(first, found));
 }
 
-// Sparse and dense are held to the first list; whether lazy gave another table is told.
+// Sparse and both dense engines are held to the first list; whether lazy gave another table is told.
 fn compared(tally: &mut [u64; 90], first: ByEach, again: ByEach) -> bool {
     held(tally, SPARSE, first.sparse, again.sparse);
     held(tally, DENSE, first.sparse, again.dense);
+    held(tally, SLOW, first.sparse, again.slow);
     !same_table(first.lazy, again.lazy)
 }
 
@@ -131,12 +133,13 @@ fn reordered(
     compared(tally, first, solve(n, m, rows, constants))
 }
 
-// The list that was drawn: dense is held to sparse.
+// The list that was drawn: both dense engines are held to sparse.
 fn drawn_first(tally: &mut [u64; 90], seen: &mut [u64; 5], first: ByEach) {
     let sparse = first.sparse;
     let answer = sparse.answer;
     counted(tally, SPARSE, answer);
     held(tally, DENSE, sparse, first.dense);
+    held(tally, SLOW, sparse, first.slow);
     count_if(seen, DRAWN, true);
     count_if(seen, LAZY_APART, !same_table(sparse, first.lazy));
 }
