@@ -6,6 +6,7 @@ unsafe extern "C" {
     fn orohkaril_sparse(n: usize, m: usize, starts: *const u32, starts_len: usize, vars: *const u32, vars_len: usize, constants: *const u64, constants_len: usize, solution: *mut u64, solution_len: usize, numbers: *mut u32, numbers_len: usize, words: *mut u64, words_len: usize, cancelled: *mut u64, place: *mut usize) -> u32;
     fn orohkaril_lazy(n: usize, m: usize, starts: *const u32, starts_len: usize, vars: *const u32, vars_len: usize, constants: *const u64, constants_len: usize, solution: *mut u64, solution_len: usize, numbers: *mut u32, numbers_len: usize, words: *mut u64, words_len: usize, cancelled: *mut u64, place: *mut usize) -> u32;
     fn orohkaril_dense(n: usize, m: usize, w: usize, rows: *const u64, rows_len: usize, constants: *const u64, constants_len: usize, solution: *mut u64, solution_len: usize, numbers: *mut u32, numbers_len: usize, words: *mut u64, words_len: usize, place: *mut usize) -> u32;
+    fn orohkaril_slow(n: usize, m: usize, w: usize, rows: *const u64, rows_len: usize, constants: *const u64, constants_len: usize, solution: *mut u64, solution_len: usize, numbers: *mut u32, numbers_len: usize, words: *mut u64, words_len: usize, place: *mut usize) -> u32;
     // a struct of 40 bytes is handed back through a pointer that is passed first: the convention of x86-64, which the module keeps on every machine
     fn orohkaril_peel_high(told: *mut Told, n: usize, edges: *const Edge, edges_len: usize, solution: *mut u64, solution_len: usize, numbers: *mut u32, numbers_len: usize, bytes: *mut u8, bytes_len: usize) -> *mut Told;
     fn orohkaril_peel_low(told: *mut Told, n: usize, edges: *const Edge, edges_len: usize, solution: *mut u64, solution_len: usize, numbers: *mut u32, numbers_len: usize, bytes: *mut u8, bytes_len: usize) -> *mut Told;
@@ -109,6 +110,14 @@ pub fn dense(s: &Rows, a: &mut LentAreas) -> Answer {
     let mut place = usize::MAX;
     let number = unsafe {
         orohkaril_dense(s.n, s.m, s.w, s.rows.as_ptr(), s.rows.len(), s.constants.as_ptr(), s.constants.len(), a.solution.at(), a.solution.len(), a.numbers.at(), a.numbers.len(), a.words.at(), a.words.len(), &mut place)
+    };
+    Answer(number, place)
+}
+
+pub fn slow(s: &Rows, a: &mut LentAreas) -> Answer {
+    let mut place = usize::MAX;
+    let number = unsafe {
+        orohkaril_slow(s.n, s.m, s.w, s.rows.as_ptr(), s.rows.len(), s.constants.as_ptr(), s.constants.len(), a.solution.at(), a.solution.len(), a.numbers.at(), a.numbers.len(), a.words.at(), a.words.len(), &mut place)
     };
     Answer(number, place)
 }

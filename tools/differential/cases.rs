@@ -19,12 +19,13 @@ pub enum Case {
     Check(System, Vec<u64>),
     Sparse(System, Areas),
     Dense(Rows, Areas),
+    Slow(Rows, Areas),
     Lazy(System, Areas),
     Peel(Graph, PeelAreas),
     Lookup { table: Vec<u64>, cells: [u32; 3] },
 }
 
-pub const ENGINES: [&str; 8] = ["sum", "check", "sparse", "dense", "lazy", "high", "low", "lookup"];
+pub const ENGINES: [&str; 9] = ["sum", "check", "sparse", "dense", "slow", "lazy", "high", "low", "lookup"];
 
 impl Case {
     pub fn engine(&self) -> usize {
@@ -33,9 +34,10 @@ impl Case {
             Case::Check(..) => 1,
             Case::Sparse(..) => 2,
             Case::Dense(..) => 3,
-            Case::Lazy(..) => 4,
-            Case::Peel(g, _) => if g.high { 5 } else { 6 },
-            Case::Lookup { .. } => 7,
+            Case::Slow(..) => 4,
+            Case::Lazy(..) => 5,
+            Case::Peel(g, _) => if g.high { 6 } else { 7 },
+            Case::Lookup { .. } => 8,
         }
     }
 
@@ -47,7 +49,7 @@ impl Case {
             Case::Sum { left, right, out, left_c, right_c } => left.len() + right.len() + out.len() + ones(&[*left_c, *right_c]),
             Case::Check(s, x) => s.starts.len() + s.vars.len() + s.constants.len() + x.len() + ones(x) + ones(&s.constants),
             Case::Sparse(s, a) | Case::Lazy(s, a) => s.starts.len() + s.vars.len() + s.constants.len() + ones(&s.constants) + of(a),
-            Case::Dense(s, a) => s.rows.len() + s.constants.len() + ones(&s.rows) + ones(&s.constants) + of(a),
+            Case::Dense(s, a) | Case::Slow(s, a) => s.rows.len() + s.constants.len() + ones(&s.rows) + ones(&s.constants) + of(a),
             Case::Peel(g, a) => g.size() + a.solution.len() + a.numbers.len() + a.bytes.len(),
             Case::Lookup { table, cells } => table.len() + ones(table) + cells.iter().map(|&c| c as usize).sum::<usize>(),
         }
@@ -70,16 +72,8 @@ pub fn compare(case: &Case) -> Result<u32, String> {
             let number = compare_system(s, a, calls::lazy, rules::lazy_room(s.n.min(1 << 20), s.m.min(1 << 20), s.vars.len()), original::lazy, reference::lazy)?;
             if number == 0 || number == 6 { sparse_too(s, number) } else { Ok(number) }
         }
-        Case::Dense(s, a) => {
-            let mut lent = lend(a);
-            let kept = s.clone();
-            let got = calls::dense(s, &mut lent);
-            same("rows", &s.rows, &kept.rows)?;
-            same("constants", &s.constants, &kept.constants)?;
-            let number = settle(got, &lent, expect_dense(s, a)?)?;
-            if number == 0 { checked(&system(s.n, &listed(s)), lent.solution.cells())?; }
-            Ok(number)
-        }
+        Case::Dense(s, a) => compare_rows(s, a, calls::dense),
+        Case::Slow(s, a) => compare_rows(s, a, calls::slow),
         Case::Peel(g, a) => graphs::compare_peel(g, a),
         Case::Lookup { table, cells } => graphs::compare_lookup(table, *cells),
     }
@@ -107,6 +101,18 @@ fn counted(s: &System, rust: Option<&[u64]>, counts: Engine<(End, u64)>) -> Resu
     let equations = equations(s);
     let (end, total) = counts(s.n, &equations);
     reference::held(&end, &equations, rust).map(|_| total)
+}
+
+/// A dense system by one of its two engines, both held to the Rust's one.
+fn compare_rows(s: &Rows, a: &Areas, call: fn(&Rows, &mut LentAreas) -> Answer) -> Result<u32, String> {
+    let mut lent = lend(a);
+    let kept = s.clone();
+    let got = call(s, &mut lent);
+    same("rows", &s.rows, &kept.rows)?;
+    same("constants", &s.constants, &kept.constants)?;
+    let number = settle(got, &lent, expect_dense(s, a)?)?;
+    if number == 0 { checked(&system(s.n, &listed(s)), lent.solution.cells())?; }
+    Ok(number)
 }
 
 /// A solution is what `check` says yes to.

@@ -40,7 +40,15 @@ impl Tally {
         Tally { counts: [[0; 11]; ENGINES.len()], found: [const { None }; ENGINES.len()], differences: 0 }
     }
 
+    /// A dense system goes through both dense engines.
     pub fn meet(&mut self, case: Case) {
+        if let Case::Dense(s, a) = &case {
+            self.hold(Case::Slow(s.clone(), a.clone()));
+        }
+        self.hold(case);
+    }
+
+    fn hold(&mut self, case: Case) {
         let e = case.engine();
         match compare(&case) {
             Ok(number) => self.counts[e][number as usize] += 1,

@@ -245,7 +245,7 @@ pub fn damaged_cases(r: &mut Random) -> Vec<Case> {
                 }
                 Case::Check(s, x) => if r.below(3) == 0 { resized(r, x, 1) } else { damage_system(r, s) },
                 Case::Sparse(s, a) | Case::Lazy(s, a) => if r.below(3) == 0 { damage_areas(r, a) } else { damage_system(r, s) },
-                Case::Dense(s, a) => if r.below(3) == 0 { damage_areas(r, a) } else { damage_rows(r, s) },
+                Case::Dense(s, a) | Case::Slow(s, a) => if r.below(3) == 0 { damage_areas(r, a) } else { damage_rows(r, s) },
                 Case::Peel(..) | Case::Lookup { .. } => (),
             }
         }

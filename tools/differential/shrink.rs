@@ -92,12 +92,16 @@ fn simpler(case: &Case) -> Vec<Case> {
         }
         Case::Peel(g, _) => graph_inputs::simpler(g),
         Case::Lookup { table, cells } => (0..table.len()).map(|k| { let mut t = table.clone(); t.remove(k); Case::Lookup { table: t, cells: *cells } }).collect(),
-        Case::Dense(s, _) => {
+        Case::Dense(s, _) | Case::Slow(s, _) => {
             if rules::dense(s).is_err() {
                 return vec![];
             }
             let mut all = vec![];
-            let mut lent = |s: crate::calls::Rows| { let a = exact(s.n, rules::dense_room(s.m, s.w)); all.push(Case::Dense(s, a)) };
+            let slow = matches!(case, Case::Slow(..));
+            let mut lent = |s: crate::calls::Rows| {
+                let a = exact(s.n, rules::dense_room(s.m, s.w));
+                all.push(if slow { Case::Slow(s, a) } else { Case::Dense(s, a) })
+            };
             let mut trimmed = s.clone();
             trimmed.rows.truncate(s.m * s.w);
             trimmed.constants.truncate(s.m);

@@ -119,10 +119,12 @@ pub fn run(engine: &str, n: usize, m: usize, seed: u64, only: &str) {
     match engine {
         "sparse" => { let mut rust = original::make_system(n, &eqs); solver(only, n, rules::sparse_room(n, m), || original::solve(&mut rust), |a| calls::sparse(&s, a).0.0) }
         "lazy" => { let mut rust = original::make_system(n, &eqs); solver(only, n, rules::lazy_room(n, m, 3 * m), || original::solve_lazily(&mut rust), |a| calls::lazy(&s, a).0.0) }
-        "dense" => {
+        // the Rust has one dense engine, and both of ours stand beside it
+        "dense" | "slow" => {
             let rows = rows_of(n, w, &eqs, |v| v as usize);
             let (mut rust, mut constants) = (rows.rows.clone(), rows.constants.clone());
-            solver(only, n, rules::dense_room(m, w), || original::dense(&mut rust, &mut constants, m, w, n).is_some(), |a| calls::dense(&rows, a).0)
+            let call = if engine == "slow" { calls::slow } else { calls::dense };
+            solver(only, n, rules::dense_room(m, w), || original::dense(&mut rust, &mut constants, m, w, n).is_some(), |a| call(&rows, a).0)
         }
         _ => peeler(only, engine == "high", n, &edges),
     }

@@ -7,7 +7,7 @@ SIZES = [(64, 32), (200, 140), (512, 256), (1000, 700), (2000, 1400), (5000, 350
 LARGEST = (16384, 11468)
 CORE = (1000, 900)  # a core is left that cannot be peeled
 LISTS = [(100, 3), (200, 50), (1000, 500), (16384, 1000)]  # two lists of m variables below n
-ENGINES = {'sum': LISTS, 'sparse': SIZES + [CORE], 'lazy': SIZES + [CORE], 'dense': SIZES + [CORE], 'high': SIZES + [LARGEST], 'low': SIZES + [LARGEST]}
+ENGINES = {'sum': LISTS, 'sparse': SIZES + [CORE], 'lazy': SIZES + [CORE], 'dense': SIZES + [CORE], 'slow': SIZES + [CORE], 'high': SIZES + [LARGEST], 'low': SIZES + [LARGEST]}
 
 
 def qemu(out, command, symbols):

@@ -1,4 +1,4 @@
--- Sparse and dense elimination return one table: the smallest solution, whatever the order of the equations.
+-- Sparse elimination and both dense ones return one table: the smallest solution, whatever the order of the equations.
 use mathlib.Core.Path.{_≡_, refl, sym, _∙_, subst}
 use mathlib.Core.Logic.{_⊎_, inl, inr}
 use mathlib.Core.Bool.{Bool}
@@ -22,15 +22,17 @@ use Rattle.dense_rows.specs.Rows.{rowsOf}
 use Rattle.dense_walk.proofs.RowTheorems.{sorted-rows}
 use Rattle.dense.specs.Call.{denseCall}
 use Rattle.dense.proofs.CallTheorems.{DenseLent, denseOn, denseSystem, DenseRuns, denseCall-canonical, denseCall-exact}
+use Rattle.slow_rules.proofs.SlowTheorems.{slowOn, slowOn-same}
 use Rattle.agreement.specs.Smallest.{Smallest, Solvable, SameEquations}
 use Rattle.agreement.proofs.Orders.{same-sym, reordered, canonical-is-smallest, smallest-unique, smallest-same}
 
--- ---- what either call returns for the equations es in n variables
+-- ---- what each call returns for the equations es in n variables
 
 -- a call that comes to its run (no refusal from 1 to 5), where what it is lent reads as es
 pub data RunOn (n : ℕ) : List Equation → Call → Type 0 where
   by-sparse : (l : Lent) → SparseRuns n l → RunOn n (system l) (sparseOn n l)
   by-dense : (d : DenseLent) → DenseRuns n d → RunOn n (denseSystem n d) (denseOn n d)
+  by-slow : (d : DenseLent) → DenseRuns n d → RunOn n (denseSystem n d) (slowOn n d)
 
 -- 0 and the smallest solution, or 6 and a set of equations that cancels
 pub data RunEnds (n : ℕ) (es : List Equation) (call : Call) : Type 0 where
@@ -55,15 +57,18 @@ ends n es call s canonical cancels (inr e) = let k = cancels e in clashes e (k .
 run-sorted : {n : ℕ} {es : List Equation} {call : Call} → RunOn n es call → Sorted es
 run-sorted {n} (by-sparse l a) = kept-sound n (l .m) (l .starts) (l .vars) (l .constants) (a .kept) .sorted
 run-sorted {n} (by-dense d a) = sorted-rows n (rowsOf (d .m) (d .w) (d .rows) (d .constants))
+run-sorted {n} (by-slow d a) = sorted-rows n (rowsOf (d .m) (d .w) (d .rows) (d .constants))
 
 pub run-ends : {n : ℕ} {es : List Equation} {call : Call} → RunOn n es call → RunEnds n es call
 unfolding sparseCall denseCall
 run-ends {n} (by-sparse l a) = ends n (system l) (sparseOn n l) (run-sorted (by-sparse l a)) (sparseCall-canonical n l) (sparseCall-exact n l a .0) (answered a)
 run-ends {n} (by-dense d a) = ends n (denseSystem n d) (denseOn n d) (run-sorted (by-dense d a)) (denseCall-canonical n d) (denseCall-exact n d a .0) (answered a)
+run-ends {n} (by-slow d a) =
+    rw (slowOn-same n d) (ends n (denseSystem n d) (denseOn n d) (run-sorted (by-dense d a)) (denseCall-canonical n d) (denseCall-exact n d a .0) (answered a))
 
 -- ---- the theorems
 
--- Two runs on the same equations, each by sparse or by dense elimination, in whatever orders: one answer, 0 or 6, and after 0 one table.
+-- Two runs on the same equations, each by any of the three, in whatever orders: one answer, 0 or 6, and after 0 one table.
 pub one-answer : {n : ℕ} {es fs : List Equation} {c d : Call} → RunOn n es c → RunOn n fs d → SameEquations es fs
     → (c .answer ≡ d .answer) × (c .answer ≡ Solved → c .solution ≡ d .solution)
 one-answer {n} {es} {fs} {c} {d} p q same = go (run-ends p) (run-ends q)
@@ -84,7 +89,7 @@ smallest-table {n} {es} {call} b s = go (run-ends b)
     go (solves e h) = (e, h)
     go (clashes e mask h) = absurd (solved-not-cancels es (s .x) mask (run-sorted b) (s .solves .meets) h)
 
--- Two runs on the same solvable equations, each by sparse or by dense elimination, in whatever orders: one and the same vector, the smallest solution.
+-- Two runs on the same solvable equations, each by any of the three, in whatever orders: one and the same vector, the smallest solution.
 pub one-table : {n : ℕ} {es fs : List Equation} {c d : Call} → RunOn n es c → RunOn n fs d → SameEquations es fs → Solvable n es
     → (c .answer ≡ Solved) × (d .answer ≡ Solved) × (c .solution ≡ d .solution) × Smallest n es (c .solution)
 one-table p q same s =
@@ -92,7 +97,7 @@ one-table p q same s =
     let alike = one-answer p q same in
     (least .0, sym (alike .0) ∙ least .0, alike .1 (least .0), least .1)
 
--- .. in so many words of the two engines
+-- .. in so many words of sparse and dense elimination
 pub sparse-dense-agree : {n : ℕ} (l : Lent) (d : DenseLent) → SparseRuns n l → DenseRuns n d → SameEquations (system l) (denseSystem n d) → Solvable n (system l)
     → sparseOn n l .solution ≡ denseOn n d .solution
 sparse-dense-agree l d p q same s = one-table (by-sparse l p) (by-dense d q) same s .2

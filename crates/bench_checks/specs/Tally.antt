@@ -17,4 +17,4 @@ countedIn row answer tally = oneMore (row * 11 + numberOf answer) tally
 
 -- a comparison, and a difference if it was not good
 abbrev pub heldTo : Bool → List ℕ → List ℕ
-heldTo good tally = pick good (oneMore 77 tally) (oneMore 78 (oneMore 77 tally))
+heldTo good tally = pick good (oneMore 88 tally) (oneMore 89 (oneMore 88 tally))

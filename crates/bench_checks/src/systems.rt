@@ -1,9 +1,10 @@
-// The three solvers on one system.
+// The four solvers on one system.
 ghost use Prim.Native.Nat.{_≤_, _<_};
 ghost use lib.ListN.{length};
 use crate::tally::CHECK;
 use crate::tally::DENSE;
 use crate::tally::LAZY;
+use crate::tally::SLOW;
 use crate::tally::SPARSE;
 use crate::tally::count;
 use crate::tally::hold;
@@ -35,7 +36,7 @@ fn zeroed(answer: Answer, room: usize) -> usize {
 
 // Counts a solver's answer, and holds what it left to it.
 fn left(
-    tally: &mut [u64; 79],
+    tally: &mut [u64; 90],
     row: usize,
     answer: Answer,
     solution: &[u64],
@@ -44,7 +45,7 @@ fn left(
     words: &[u64],
     words_room: usize,
 )
-    requires { ⌜ row < 7 ⌝ }
+    requires { ⌜ row < 8 ⌝ }
 {
     count(tally, row, answer);
     hold(tally, left_numbers(numbers, zeroed(answer, numbers_room)));
@@ -56,7 +57,7 @@ fn left(
 
 // A solution meets every equation.
 fn checked(
-    tally: &mut [u64; 79],
+    tally: &mut [u64; 90],
     n: usize,
     m: usize,
     starts: &[u32],
@@ -82,7 +83,7 @@ fn checked(
 
 // A solution is looked at only where there is one.
 fn checked_if_solved(
-    tally: &mut [u64; 79],
+    tally: &mut [u64; 90],
     answer: Answer,
     n: usize,
     m: usize,
@@ -122,7 +123,7 @@ fn solve_sparse(
 }
 
 fn by_sparse(
-    tally: &mut [u64; 79],
+    tally: &mut [u64; 90],
     n: usize,
     m: usize,
     starts: &[u32],
@@ -167,7 +168,7 @@ fn solve_lazy(
 }
 
 fn by_lazy(
-    tally: &mut [u64; 79],
+    tally: &mut [u64; 90],
     n: usize,
     m: usize,
     starts: &[u32],
@@ -195,8 +196,37 @@ fn by_lazy(
     answer
 }
 
+// Dense elimination on marked memory, or the slow engine where the row is its own.
+fn solve_dense(
+    row: usize,
+    n: usize,
+    m: usize,
+    w: usize,
+    rows: &[u64],
+    constants: &[u64],
+    solution: &mut [u64],
+    numbers: &mut [u32],
+    words: &mut [u64],
+) -> Answer {
+    mark(solution, numbers, words);
+    if row == SLOW {
+        return slow_dense::slow_gaussian_elimination(
+            n,
+            m,
+            w,
+            rows,
+            constants,
+            solution,
+            numbers,
+            words,
+        );
+    }
+    dense::dense_gaussian_elimination(n, m, w, rows, constants, solution, numbers, words)
+}
+
 fn by_dense(
-    tally: &mut [u64; 79],
+    tally: &mut [u64; 90],
+    row: usize,
     n: usize,
     m: usize,
     w: usize,
@@ -208,22 +238,12 @@ fn by_dense(
     numbers: &mut [u32],
     words: &mut [u64],
 ) -> Answer
-    requires { ⌜ (m ≤ 16384) × (w ≤ 256) ⌝ }
+    requires { ⌜ (row < 8) × (m ≤ 16384) × (w ≤ 256) ⌝ }
 {
-    mark(solution, numbers, words);
-    let answer = dense::dense_gaussian_elimination(
-        n,
-        m,
-        w,
-        rows,
-        constants,
-        solution,
-        numbers,
-        words,
-    );
+    let answer = solve_dense(row, n, m, w, rows, constants, solution, numbers, words);
     left(
         tally,
-        DENSE,
+        row,
         answer,
         solution,
         numbers,
@@ -242,7 +262,7 @@ pub struct Outcome {
 }
 
 fn sparse_on(
-    tally: &mut [u64; 79],
+    tally: &mut [u64; 90],
     n: usize,
     m: usize,
     starts: &[u32],
@@ -269,7 +289,7 @@ fn sparse_on(
 }
 
 fn lazy_on(
-    tally: &mut [u64; 79],
+    tally: &mut [u64; 90],
     n: usize,
     m: usize,
     starts: &[u32],
@@ -296,7 +316,8 @@ fn lazy_on(
 }
 
 fn dense_on(
-    tally: &mut [u64; 79],
+    tally: &mut [u64; 90],
+    row: usize,
     n: usize,
     m: usize,
     w: usize,
@@ -305,13 +326,14 @@ fn dense_on(
     rows: &[u64],
     constants: &[u64],
 ) -> Outcome
-    requires { ⌜ (n ≤ 130) × (m ≤ 130) × (w ≤ 3) ⌝ }
+    requires { ⌜ (row < 8) × (n ≤ 130) × (m ≤ 130) × (w ≤ 3) ⌝ }
 {
     let mut x = [0u64; 130];
     let mut numbers = [0u32; 140];
     let mut words = [0u64; 600];
     let answer = by_dense(
         tally,
+        row,
         n,
         m,
         w,
@@ -334,21 +356,28 @@ fn as_planted(planted: bool, answer: Answer) -> bool {
     true
 }
 
-// One answer of all three, and one solution of sparse and dense.
-fn agree(tally: &mut [u64; 79], s: Outcome, d: Outcome, l: Outcome) {
-    let by_sparse = s.answer;
-    let by_dense = d.answer;
-    let by_lazy = l.answer;
-    hold(tally, by_sparse.number() == by_dense.number());
-    hold(tally, by_sparse.number() == by_lazy.number());
-    let xs = s.x;
-    let xd = d.x;
-    hold(tally, same_words(&xs, &xd));
+// One answer of two solvers, and one solution.
+fn alike(tally: &mut [u64; 90], a: Outcome, b: Outcome) {
+    let first = a.answer;
+    let second = b.answer;
+    hold(tally, first.number() == second.number());
+    let x = a.x;
+    let y = b.x;
+    hold(tally, same_words(&x, &y));
 }
 
-// One system by all three: one answer, one solution of sparse and dense, every solution checked, and a planted system solved.
+// One answer of all four, and one solution of sparse and both dense engines.
+fn agree(tally: &mut [u64; 90], s: Outcome, d: Outcome, o: Outcome, l: Outcome) {
+    alike(tally, s, d);
+    alike(tally, d, o);
+    let by_sparse = s.answer;
+    let by_lazy = l.answer;
+    hold(tally, by_sparse.number() == by_lazy.number());
+}
+
+// One system by all four: one answer, one solution of sparse and both dense engines, every solution checked, and a planted system solved.
 pub fn compare(
-    tally: &mut [u64; 79],
+    tally: &mut [u64; 90],
     planted: bool,
     n: usize,
     m: usize,
@@ -361,9 +390,10 @@ pub fn compare(
     requires { ⌜ (n ≤ 130) × (m ≤ 130) × (w ≤ 3) × (length (now vars) ≤ 1024) ⌝ }
 {
     let s = sparse_on(tally, n, m, starts, vars, constants);
-    let d = dense_on(tally, n, m, w, starts, vars, rows, constants);
+    let d = dense_on(tally, DENSE, n, m, w, starts, vars, rows, constants);
+    let o = dense_on(tally, SLOW, n, m, w, starts, vars, rows, constants);
     let l = lazy_on(tally, n, m, starts, vars, constants);
-    agree(tally, s, d, l);
+    agree(tally, s, d, o, l);
     let answer = s.answer;
     hold(tally, as_planted(planted, answer));
 }

@@ -33,7 +33,7 @@ fn mark(solution: &mut [u64], numbers: &mut [u32], bytes: &mut [u8]) {
 
 // Counts a peeler's answer, and holds the lent cells to it.
 fn left(
-    tally: &mut [u64; 79],
+    tally: &mut [u64; 90],
     row: usize,
     answer: Answer,
     solution: &[u64],
@@ -42,7 +42,7 @@ fn left(
     bytes: &[u8],
     bytes_room: usize,
 )
-    requires { ⌜ row < 7 ⌝ }
+    requires { ⌜ row < 8 ⌝ }
 {
     count(tally, row, answer);
     hold(tally, left_numbers(numbers, numbers_room));
@@ -53,7 +53,7 @@ fn left(
 }
 
 // Every one of the m bibs is found in the table's cells.
-fn look_up(tally: &mut [u64; 79], table: [Edge; 256], m: usize, cells: &[u64])
+fn look_up(tally: &mut [u64; 90], table: [Edge; 256], m: usize, cells: &[u64])
     requires { ⌜ m ≤ 256 ⌝ }
 {
     let mut i = 0;
@@ -69,7 +69,7 @@ fn look_up(tally: &mut [u64; 79], table: [Edge; 256], m: usize, cells: &[u64])
 
 // Bibs are looked up only where the table is filled.
 fn look_up_if_solved(
-    tally: &mut [u64; 79],
+    tally: &mut [u64; 90],
     answer: Answer,
     table: [Edge; 256],
     m: usize,
@@ -96,7 +96,7 @@ fn solve_high(
 }
 
 fn by_high(
-    tally: &mut [u64; 79],
+    tally: &mut [u64; 90],
     table: [Edge; 256],
     m: usize,
     n: usize,
@@ -138,7 +138,7 @@ fn solve_low(
 }
 
 fn by_low(
-    tally: &mut [u64; 79],
+    tally: &mut [u64; 90],
     table: [Edge; 256],
     m: usize,
     n: usize,
@@ -193,7 +193,7 @@ fn expected(table: [Edge; 256], m: usize, n: usize) -> Answer
 }
 
 // The answer that counting gives.
-fn as_counted(tally: &mut [u64; 79], table: [Edge; 256], m: usize, n: usize, answer: Answer)
+fn as_counted(tally: &mut [u64; 90], table: [Edge; 256], m: usize, n: usize, answer: Answer)
     requires { ⌜ (m ≤ 256) × (n ≤ 16384) ⌝ }
 {
     let e = expected(table, m, n);
@@ -207,7 +207,7 @@ pub struct Outcome {
     pub x: [u64; 300],
 }
 
-fn high_on(tally: &mut [u64; 79], table: [Edge; 256], m: usize, n: usize) -> Outcome
+fn high_on(tally: &mut [u64; 90], table: [Edge; 256], m: usize, n: usize) -> Outcome
     requires { ⌜ (m ≤ 256) × (n ≤ 300) ⌝ }
 {
     let mut x = [0u64; 300];
@@ -217,7 +217,7 @@ fn high_on(tally: &mut [u64; 79], table: [Edge; 256], m: usize, n: usize) -> Out
     Outcome { end, x }
 }
 
-fn low_on(tally: &mut [u64; 79], table: [Edge; 256], m: usize, n: usize) -> Outcome
+fn low_on(tally: &mut [u64; 90], table: [Edge; 256], m: usize, n: usize) -> Outcome
     requires { ⌜ (m ≤ 256) × (n ≤ 300) ⌝ }
 {
     let mut x = [0u64; 300];
@@ -228,7 +228,7 @@ fn low_on(tally: &mut [u64; 79], table: [Edge; 256], m: usize, n: usize) -> Outc
 }
 
 // One answer with its report, and one solution.
-fn agree(tally: &mut [u64; 79], h: Outcome, l: Outcome) {
+fn agree(tally: &mut [u64; 90], h: Outcome, l: Outcome) {
     let p = h.end;
     let q = l.end;
     hold(tally, same_ends(p, q));
@@ -238,7 +238,7 @@ fn agree(tally: &mut [u64; 79], h: Outcome, l: Outcome) {
 }
 
 // One table by both peelers: one answer with its report, one solution, every bib found; of a small table, the answer that counting gives.
-pub fn compare(tally: &mut [u64; 79], table: [Edge; 256], m: usize, n: usize)
+pub fn compare(tally: &mut [u64; 90], table: [Edge; 256], m: usize, n: usize)
     requires { ⌜ (m ≤ 256) × (n ≤ 300) ⌝ }
 {
     let h = high_on(tally, table, m, n);

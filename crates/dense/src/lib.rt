@@ -4,8 +4,8 @@ ghost use Rattle.dense.specs.Call.{denseCall};
 use answers::Answer;
 use answers::Rules;
 
-mod rules;
-mod run;
+pub mod rules;
+pub mod run;
 
 // Solves the system of `m` rows of `w` words and as many constants in `n` variables; column c is bit c mod 64 of word c div 64.
 // The system is only read: the words hold a copy of it, and the numbers its pivots.

@@ -15,7 +15,7 @@ use dense_walk::walk::constant_left;
 use dense_walk::walk::eliminate;
 
 // The rows, and after them the constants.
-fn load(m: usize, w: usize, rows: &[u64], constants: &[u64], words: &mut [u64])
+pub fn load(m: usize, w: usize, rows: &[u64], constants: &[u64], words: &mut [u64])
     requires { ⌜ (m * w ≤ length (now rows)) × (m ≤ length (now constants)) × (m * w + m ≤ length (now words)) ⌝ }
     ensures { λ _. ⌜ Became m w (now (words .entry)) (rowsOf m w (now (rows .entry)) (now (constants .entry))) (now (words .exit)) ⌝ }
 {
@@ -25,7 +25,7 @@ fn load(m: usize, w: usize, rows: &[u64], constants: &[u64], words: &mut [u64])
 }
 
 // The room of both areas is zero again.
-fn clear_room(m: usize, w: usize, numbers: &mut [u32], words: &mut [u64])
+pub fn clear_room(m: usize, w: usize, numbers: &mut [u32], words: &mut [u64])
     requires { ⌜ (denseNumbers m ≤ length (now numbers)) × (denseWords m w ≤ length (now words)) ⌝ }
     ensures { λ _. ⌜ now (numbers .exit) ≡ cleared (denseNumbers m) (now (numbers .entry)) ⌝ }
     ensures { λ _. ⌜ now (words .exit) ≡ cleared (denseWords m w) (now (words .entry)) ⌝ }

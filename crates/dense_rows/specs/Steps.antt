@@ -33,7 +33,7 @@ xorFrom k pivot row = record {
   c = bitXor (row .c) (pivot .c);
 }
 
--- a row below the pivot row: where it has the column, it gets the pivot row
+-- a row beside the pivot row: where it has the column, it gets the pivot row
 unfoldable pub clearRow : ℕ → Row → Row → Row
 clearRow c pivot row = elim (hasBit c row) [ true ↦ xorFrom (c / 64) pivot row | false ↦ row ]
 

@@ -1,12 +1,13 @@
 -- A loop that XORs one stretch of an area into another, one word a turn.
 use mathlib.Core.Path.{_≡_, refl, sym, ap, ap₂, _∙_}
+use mathlib.Core.Logic.{_⊎_, ⊎-elim}
 use mathlib.Core.List.{List, [], _∷_, _++_}
-use Prim.Native.Nat.{ℕ, suc, _+_, _<_, _≤_}
+use Prim.Native.Nat.{ℕ, _+_, _<_, _≤_}
 use native.Mathlib.Omega.{arith}
 use lib.ListN.{length, getD, set, length-set}
 use lib.Bits.{bitXor}
 use Rattle.areas.specs.Stretch.{stretch, put}
-use Rattle.areas.proofs.Stretch.{length-stretch, stretch-none, stretch-snoc, put-none, put-more, length-put, getD-put-before, getD-put-after}
+use Rattle.areas.proofs.Stretch.{length-stretch, stretch-none, stretch-snoc, put-none, put-more, getD-put-before, getD-put-after}
 use Rattle.dense_rows.specs.Bits.{xorWords}
 use Rattle.dense_rows.proofs.StepLaws.{length-xorWords}
 
@@ -20,16 +21,18 @@ xorWords-snoc (u ∷ a) (v ∷ b) x y e = ap (λ (l : List ℕ). bitXor u v ∷ 
 -- the first k words
 pub record Xoring (d : List ℕ) (from to n k : ℕ) (out : List ℕ) : Type 0 where
   pub within : k ≤ n
-  pub apart : from + n ≤ to
+  pub apart : (from + n ≤ to) ⊎ (to + n ≤ from)
+  pub from-room : from + n ≤ length d
   pub room : to + n ≤ length d
   pub long : length out ≡ length d
   pub so-far : out ≡ put to (xorWords (stretch to k d) (stretch from k d)) d
 
-pub xoring-begin : (d : List ℕ) (from to n : ℕ) → from + n ≤ to → to + n ≤ length d → Xoring d from to n 0 d
+pub xoring-begin : (d : List ℕ) (from to n : ℕ) → (from + n ≤ to) ⊎ (to + n ≤ from) → from + n ≤ length d → to + n ≤ length d → Xoring d from to n 0 d
 unfolding xorWords
-xoring-begin d from to n h g = record {
+xoring-begin d from to n h f g = record {
   within = omega arith;
   apart = h;
+  from-room = f;
   room = g;
   long = refl;
   so-far = sym (rw (stretch-none to d, stretch-none from d) (put-none to d));
@@ -38,7 +41,7 @@ xoring-begin d from to n h g = record {
 pub xoring-turn : {d : List ℕ} {from to n k : ℕ} {out : List ℕ} → Xoring d from to n k out → k < n
     → Xoring d from to n (k + 1) (set out (to + k) (bitXor (getD out (to + k) 0) (getD out (from + k) 0)))
 xoring-turn {d} {from} {to} {n} {k} {out} x h =
-    let f = x .apart in
+    let f = x .from-room in
     let g = x .room in
     let s : List ℕ = stretch to k d in
     let t : List ℕ = stretch from k d in
@@ -48,13 +51,15 @@ xoring-turn {d} {from} {to} {n} {k} {out} x h =
     let at-to : getD out (to + k) 0 ≡ getD d (to + k) 0 =
     ap (λ (l : List ℕ). getD l (to + k) 0) (x .so-far) ∙ getD-put-after to (to + k) 0 (xorWords s t) d (omega arith) (omega arith) in
     let at-from : getD out (from + k) 0 ≡ getD d (from + k) 0 =
-    ap (λ (l : List ℕ). getD l (from + k) 0) (x .so-far) ∙ getD-put-before to (from + k) 0 (xorWords s t) d (omega arith) (omega arith) in
+    ap (λ (l : List ℕ). getD l (from + k) 0) (x .so-far)
+    ∙ ⊎-elim (λ z. getD-put-before to (from + k) 0 (xorWords s t) d (omega arith) (omega arith)) (λ z. getD-put-after to (from + k) 0 (xorWords s t) d (omega arith) (omega arith)) (x .apart) in
     let v : ℕ = bitXor (getD d (to + k) 0) (getD d (from + k) 0) in
     let more : set (put to (xorWords s t) d) (to + k) v ≡ put to (xorWords s t ++ (v ∷ [])) d =
     ap (λ (j : ℕ). set (put to (xorWords s t) d) (to + j) v) (sym ex) ∙ put-more to v (xorWords s t) d (omega arith) in
     record {
       within = omega arith;
-      apart = f;
+      apart = x .apart;
+      from-room = f;
       room = g;
       long = simp length-set (x .long);
       so-far =

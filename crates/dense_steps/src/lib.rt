@@ -1,5 +1,6 @@
 // Rows of one area that change places or are XORed, each from a word on, that word included.
 ghost use mathlib.Core.Path.{_≡_};
+ghost use mathlib.Core.Logic.{_≢_, _⊎_};
 ghost use Prim.Native.Nat.{_+_, _*_, _/_, _≤_, _<_};
 ghost use lib.ListN.{length, set, getD};
 ghost use Rattle.areas.specs.Stretch.{stretch, put};
@@ -16,9 +17,9 @@ pub fn swap_rows(words: &mut [u64], m: usize, w: usize, word: usize, i: usize, j
     areas::exchange::exchange_words(words, m * w + i, m * w + j, 1);
 }
 
-// XORs the `n` words from index `from` on into those from index `to` on, which lie past them.
+// XORs the `n` words from index `from` on into those from index `to` on, which lie past them or before them.
 pub fn xor_words(words: &mut [u64], from: usize, to: usize, n: usize)
-    requires { ⌜ (from + n ≤ to) × (to + n ≤ length (now words)) ⌝ }
+    requires { ⌜ ((from + n ≤ to) ⊎ (to + n ≤ from)) × (from + n ≤ length (now words)) × (to + n ≤ length (now words)) ⌝ }
     ensures { λ _. ⌜ now (words .exit) ≡ put to (xorWords (stretch to n (now (words .entry))) (stretch from n (now (words .entry)))) (now (words .entry)) ⌝ }
 {
     let mut k = 0;
@@ -28,9 +29,9 @@ pub fn xor_words(words: &mut [u64], from: usize, to: usize, n: usize)
     }
 }
 
-// Row `i` is XORed into row `j`, which lies below it, from the word on, and its constant.
+// Row `i` is XORed into row `j`, another one, from the word on, and its constant.
 pub fn xor_row(words: &mut [u64], m: usize, w: usize, word: usize, i: usize, j: usize)
-    requires { ⌜ (word ≤ w) × (i < j) × (j < m) × (m * w + m ≤ length (now words)) ⌝ }
+    requires { ⌜ (word ≤ w) × (i < m) × (j < m) × (i ≢ j) × (m * w + m ≤ length (now words)) ⌝ }
     ensures { λ _. ⌜ Became m w (now (words .entry)) (set (held m w (now (words .entry))) j (xorFrom word (getD (held m w (now (words .entry))) i noRow) (getD (held m w (now (words .entry))) j noRow))) (now (words .exit)) ⌝ }
 {
     xor_words(words, i * w + word, j * w + word, w - word);

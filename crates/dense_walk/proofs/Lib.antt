@@ -3,5 +3,6 @@ pub mod WalkLaws
 pub mod BackLaws
 pub mod RowTheorems
 pub mod WordsBefore
+pub mod PivotStep
 pub mod Walking
 pub mod Backing

@@ -29,7 +29,7 @@ use Rattle.gf2.proofs.OneValue.{zeros-at}
 
 -- ---- the constants that are left
 
-residue-none : (rows : List Row) → residue rows ≡ false → Each (λ row. row .c ≡ 0) rows
+pub residue-none : (rows : List Row) → residue rows ≡ false → Each (λ row. row .c ≡ 0) rows
 unfolding residue
 residue-none [] e = tt
 residue-none (row ∷ rows) e = go (row .c) refl e (residue-none rows)
@@ -38,7 +38,7 @@ residue-none (row ∷ rows) e = go (row .c) refl e (residue-none rows)
     go zero p e ih = (p, ih e)
     go (suc d) p e ih = absurd (true≢false e)
 
-residue-some : (rows : List Row) → residue rows ≡ true → (i : ℕ) × (i < length rows) × (getD rows i noRow .c ≢ 0)
+pub residue-some : (rows : List Row) → residue rows ≡ true → (i : ℕ) × (i < length rows) × (getD rows i noRow .c ≢ 0)
 unfolding residue
 residue-some [] e = absurd (false≢true e)
 residue-some (row ∷ rows) e = go (row .c) refl e (residue-some rows)

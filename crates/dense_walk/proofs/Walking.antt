@@ -1,36 +1,25 @@
 -- The loop over the columns: what the areas hold so far, and what is left of the walk.
-use mathlib.Core.Path.{_≡_, refl, sym, ap, ap₂, _∙_, subst}
-use mathlib.Core.List.{List, [], _∷_, _++_, map, append-nil}
+use mathlib.Core.Path.{_≡_, refl, sym, ap, ap₂, _∙_}
+use mathlib.Core.List.{List, [], _∷_, _++_, append-nil}
 use mathlib.Core.Logic.{_⊎_, inl, inr}
 use mathlib.Core.Bool.{true, false}
 use Prim.Native.Nat.{ℕ, zero, suc, _+_, _-_, _*_, _/_, _<_, _≤_}
-use native.Mathlib.Nat.{add-zero, le-refl}
 use native.Mathlib.Numerals.{add-one}
 use native.Mathlib.Omega.{arith}
 use lib.ListN.{length, getD, set, take, drop, length-set, length-drop, drop-of-length-le}
-use lib.Seq.{drop-cons, take-suc, take-suc-set, drop-set-lt, take-set-le, drop-set-add, getD-drop, take-append-le, drop-append-le, take-at, drop-at, length-take-le, append-snoc, take-all, take-take}
-use Rattle.gf2.proofs.Tests.{Tri, less, same, more, tri}
+use lib.Seq.{drop-cons, take-suc-set, drop-set-lt, append-snoc}
 use Rattle.answers.specs.Sizes.{maxVariables}
 use Rattle.dense_rows.specs.Bits.{Row}
 use Rattle.dense_rows.specs.Rows.{held, Became}
-use Rattle.dense_rows.specs.Steps.{pivotFrom, fromWord, noRow, swapRows, clearRow, clearBelow}
-use Rattle.dense_rows.specs.declared.Pivot.{Pivot}
+use Rattle.dense_rows.specs.Steps.{pivotFrom, noRow, swapRows, clearBelow}
 use Rattle.dense_rows.specs.declared.Pivot.the-variants.{At, Nowhere}
 use Rattle.dense_rows.proofs.HeldLaws.{rows-length, held-constant}
-use Rattle.dense_rows.proofs.SearchLaws.{Found, at, nowhere, found, moved, pivot-moved}
-use Rattle.dense_walk.specs.Eliminate.{Step, passed, taken, topped, column, Walk, onTop, walk, residue}
+use Rattle.dense_walk.specs.Eliminate.{passed, taken, column, Walk, onTop, walk, residue}
 use Rattle.dense_walk.specs.Areas.{Eliminated}
 use Rattle.dense_walk.proofs.WalkLaws.{stopped}
+use Rattle.dense_walk.proofs.PivotStep.{pivot-place, column-none, pivot-taken}
 
--- ---- the cases of a column and of the walk
-
-column-passed : (c : ℕ) (rest : List Row) → pivotFrom c 0 rest ≡ Nowhere → column c rest ≡ passed
-unfolding column
-column-passed c rest e = rw (e, column)
-
-column-taken : (c j : ℕ) (rest : List Row) → pivotFrom c 0 rest ≡ At j → column c rest ≡ topped c (swapRows (c / 64) 0 j rest)
-unfolding column
-column-taken c j rest e = rw (e, column)
+-- ---- the cases of the walk
 
 walk-passed : (k c : ℕ) (rest : List Row) → 0 < length rest → column c rest ≡ passed → walk (suc k) c rest ≡ walk k (suc c) rest
 unfolding walk
@@ -46,79 +35,6 @@ walk-no-row : (k c : ℕ) → walk k c [] ≡ stopped []
 unfolding walk
 walk-no-row zero c = refl
 walk-no-row (suc k) c = refl
-
--- ---- rows from the rank on
-
--- a search that counts from b on
-from-zero : (c b : ℕ) (rest : List Row) → pivotFrom c b rest ≡ moved b (pivotFrom c 0 rest)
-from-zero c b rest = ap (λ (i : ℕ). pivotFrom c i rest) (sym (add-zero b)) ∙ pivot-moved c b 0 rest
-
-nowhere-from : (c b : ℕ) (rest : List Row) → pivotFrom c b rest ≡ Nowhere → pivotFrom c 0 rest ≡ Nowhere
-nowhere-from c b rest e = go (pivotFrom c 0 rest) (sym (from-zero c b rest) ∙ e)
-  where
-    go : (o : Pivot) → moved b o ≡ Nowhere → o ≡ Nowhere
-    go (At r) q = absurd (let z : _≡_ {A = ℕ} 0 1 = cc in omega arith)
-    go Nowhere q = refl
-
--- the pivot's place in the rows from b on
-at-from : (c b : ℕ) (rest : List Row) (r : ℕ) → pivotFrom c b rest ≡ At r → (j : ℕ) × (r ≡ b + j) × (j < length rest) × (pivotFrom c 0 rest ≡ At j)
-at-from c b rest r e = go (pivotFrom c 0 rest) (found c 0 rest) refl (sym (from-zero c b rest) ∙ e)
-  where
-    go : (o : Pivot) → Found c 0 rest o → pivotFrom c 0 rest ≡ o → moved b o ≡ At r → (j : ℕ) × (r ≡ b + j) × (j < length rest) × (pivotFrom c 0 rest ≡ At j)
-    go o (at i h p {r = s} q) f g = let z : b + s ≡ r = cc in (s, sym z, omega arith, f)
-    go o (nowhere n) f g = absurd (let z : _≡_ {A = ℕ} 0 1 = cc in omega arith)
-
-pub pivot-place : (c b : ℕ) (rest : List Row) (r : ℕ) → pivotFrom c b rest ≡ At r → (b ≤ r) × (r < b + length rest)
-pivot-place c b rest r e = let t = at-from c b rest r e in (omega (arith, t .1), omega (arith, t .1, t .2))
-
-module _ (k b j : ℕ) (rows : List Row) where
-  swapped : List Row
-  swapped = swapRows k b (b + j) rows
-
-  length-swapped : length swapped ≡ length rows
-  unfolding swapped swapRows
-  length-swapped = simp length-set
-
-  swap-above : take b swapped ≡ take b rows
-  unfolding swapped swapRows
-  swap-above =
-      let a : Row = getD rows b noRow in
-      let d : Row = getD rows (b + j) noRow in
-      take-set-le b (set rows b (fromWord k a d)) (b + j) (fromWord k d a) (omega arith) ∙ take-set-le b rows b (fromWord k a d) (le-refl b)
-
-  swap-below : drop b swapped ≡ swapRows k 0 j (drop b rows)
-  unfolding swapped swapRows
-  swap-below =
-      let a : Row = getD rows b noRow in
-      let d : Row = getD rows (b + j) noRow in
-      let top : getD (drop b rows) 0 noRow ≡ a = getD-drop b rows 0 noRow ∙ ap (λ (i : ℕ). getD rows i noRow) (add-zero b) in
-      let first : drop b (set rows b (fromWord k a d)) ≡ set (drop b rows) 0 (fromWord k a d) =
-      ap (λ (i : ℕ). drop b (set rows i (fromWord k a d))) (sym (add-zero b)) ∙ drop-set-add b rows 0 (fromWord k a d) in
-      drop-set-add b (set rows b (fromWord k a d)) j (fromWord k d a)
-      ∙ ap (λ (l : List Row). set l j (fromWord k d a)) first
-      ∙ ap₂ (λ (x y : Row). set (set (drop b rows) 0 (fromWord k x y)) j (fromWord k y x)) (sym top) (sym (getD-drop b rows j noRow))
-
--- the pivot's row has come to place b and is cleared from the rows below
-module _ (c b : ℕ) (rows : List Row) (h : b < length rows) where
-  after : List Row
-  after = clearBelow c b rows
-
-  front : length (take (b + 1) rows) ≡ b + 1
-  front = length-take-le (b + 1) rows (omega arith)
-
-  after-front : take (b + 1) after ≡ take (b + 1) rows
-  unfolding after clearBelow
-  after-front = take-at (take (b + 1) rows) (map (clearRow c (getD rows b noRow)) (drop (b + 1) rows)) (b + 1) front
-
-  after-below : drop (b + 1) after ≡ map (clearRow c (getD rows b noRow)) (drop (b + 1) rows)
-  unfolding after clearBelow
-  after-below = drop-at (take (b + 1) rows) (map (clearRow c (getD rows b noRow)) (drop (b + 1) rows)) (b + 1) front
-
-  after-taken : topped c (drop b rows) ≡ taken (getD rows b noRow) (drop (b + 1) after)
-  unfolding topped
-  after-taken =
-      ap (topped c) (drop-cons rows b noRow h)
-      ∙ ap (taken (getD rows b noRow)) (sym (after-below ∙ ap (λ (i : ℕ). map (clearRow c (getD rows b noRow)) (drop i rows)) (add-one b)))
 
 -- ---- the loop
 
@@ -189,7 +105,7 @@ module _ {n m w : ℕ} {numbers₀ words₀ : List ℕ} {rank col : ℕ} {number
   unfolding rows
   walking-skip h ne e =
       let r = s .ranked in
-      let none = column-passed col (drop rank rows) (nowhere-from col rank (drop rank rows) (sym e)) in
+      let none = column-none col rank (drop rank rows) (sym e) in
       record {
         n-fits = s .n-fits;
         wide-enough = s .wide-enough;
@@ -212,27 +128,19 @@ module _ {n m w : ℕ} {numbers₀ words₀ : List ℕ} {rank col : ℕ} {number
   pub walking-turn : {pivot : ℕ} {area : List ℕ} → col < n → (rank ≡ m → ⊥) → At pivot ≡ pivotFrom col rank (drop rank (held m w words))
       → Became m w words (clearBelow col rank (swapRows (col / 64) rank pivot (held m w words))) area
       → Walking n m w numbers₀ words₀ (rank + 1) (col + 1) (set numbers rank col) area
-  unfolding rows swapped after
+  unfolding rows
   walking-turn {pivot} {area} h ne e b =
       let r = s .ranked in
       let l = count in
       let g = s .words-room in
       let f = s .numbers-room in
-      let t = at-from col rank (drop rank rows) pivot (sym e) in
-      let S : List Row = swapRows (col / 64) rank (rank + t .0) rows in
-      let R : List Row = clearBelow col rank S in
-      let long : length S ≡ length rows = length-swapped (col / 64) rank (t .0) rows in
-      let p : Row = getD S rank noRow in
-      let now : held m w area ≡ R = b .holds ∙ ap (λ (q : ℕ). clearBelow col rank (swapRows (col / 64) rank q rows)) (t .1) in
-      let step : column col (drop rank rows) ≡ taken p (drop (rank + 1) R) =
-      column-taken col (t .0) (drop rank rows) (t .3) ∙ ap (topped col) (sym (swap-below (col / 64) rank (t .0) rows)) ∙ after-taken col rank S (omega arith) in
-      let tops : take (rank + 1) R ≡ take rank rows ++ (p ∷ []) =
-      after-front col rank S (omega arith) ∙ ap (λ (k : ℕ). take k S) (add-one rank) ∙ take-suc S rank noRow (omega arith)
-      ∙ ap (λ (q : List Row). q ++ (p ∷ [])) (swap-above (col / 64) rank (t .0) rows) in
+      let t = pivot-taken col rank pivot rows (omega arith) (sym e) in
+      let p : Row = t .pivot in
+      let R : List Row = clearBelow col rank (swapRows (col / 64) rank pivot rows) in
       let pivots : take (rank + 1) (set numbers rank col) ≡ take rank numbers ++ (col ∷ []) =
       ap (λ (k : ℕ). take k (set numbers rank col)) (add-one rank) ∙ take-suc-set numbers rank col (omega arith) in
       let onward : walk (n - col) col (drop rank rows) ≡ onTop col p (walk (n - (col + 1)) (col + 1) (drop (rank + 1) R)) =
-      ap (λ (k : ℕ). walk k col (drop rank rows)) (one-less h) ∙ walk-taken (n - (col + 1)) col (drop rank rows) p (drop (rank + 1) R) (rest-count (omega arith)) step
+      ap (λ (k : ℕ). walk k col (drop rank rows)) (one-less h) ∙ walk-taken (n - (col + 1)) col (drop rank rows) p (drop (rank + 1) R) (rest-count (omega arith)) (t .step)
       ∙ ap (λ (c : ℕ). onTop col p (walk (n - (col + 1)) c (drop (rank + 1) R))) (sym (add-one col)) in
       record {
         n-fits = s .n-fits;
@@ -248,8 +156,8 @@ module _ {n m w : ℕ} {numbers₀ words₀ : List ℕ} {rank col : ℕ} {number
         future =
             s .future ∙ ap (λ (wk : Walk). joined (take rank numbers) (take rank rows) wk) onward
             ∙ joined-snoc (take rank numbers) (take rank rows) col p (walk (n - (col + 1)) (col + 1) (drop (rank + 1) R))
-            ∙ ap₂ (λ (x : List ℕ) (y : List Row). joined x y (walk (n - (col + 1)) (col + 1) (drop (rank + 1) R))) (sym pivots) (sym tops)
-            ∙ ap (λ (q : List Row). joined (take (rank + 1) (set numbers rank col)) (take (rank + 1) q) (walk (n - (col + 1)) (col + 1) (drop (rank + 1) q))) (sym now);
+            ∙ ap₂ (λ (x : List ℕ) (y : List Row). joined x y (walk (n - (col + 1)) (col + 1) (drop (rank + 1) R))) (sym pivots) (sym (t .tops))
+            ∙ ap (λ (q : List Row). joined (take (rank + 1) (set numbers rank col)) (take (rank + 1) q) (walk (n - (col + 1)) (col + 1) (drop (rank + 1) q))) (sym (b .holds));
       }
 
   -- every column is done, or every row has a pivot

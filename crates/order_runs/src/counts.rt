@@ -31,11 +31,13 @@ fn line(name: &[u8], times: u64) {
     io::write_all(STDOUT_FILENO, b"\n");
 }
 
-fn tally_lines(tally: &[u64; 79]) {
+fn tally_lines(tally: &[u64; 90]) {
     line(b"sparse 0: ", tally[0]);
     line(b"sparse 6: ", tally[6]);
     line(b"dense 0: ", tally[11]);
     line(b"dense 6: ", tally[17]);
+    line(b"slow 0: ", tally[77]);
+    line(b"slow 6: ", tally[83]);
     line(b"comparisons: ", tally[COMPARED]);
     line(b"disagreements: ", tally[DIFFERENT]);
 }
@@ -50,7 +52,7 @@ fn seen_lines(seen: &[u64; 5]) {
     );
 }
 
-pub fn lines(tally: &[u64; 79], seen: &[u64; 5]) {
+pub fn lines(tally: &[u64; 90], seen: &[u64; 5]) {
     line(b"systems: ", seen[DRAWN]);
     tally_lines(tally);
     seen_lines(seen);

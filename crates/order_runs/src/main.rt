@@ -6,7 +6,7 @@ mod runs;
 mod solving;
 
 fn main() {
-    let mut tally = [0u64; 79];
+    let mut tally = [0u64; 90];
     let mut seen = [0u64; 5];
     let mut seed: u64 = 88172645463325252;
     runs::systems(&mut tally, &mut seen, &mut seed);

@@ -15,6 +15,7 @@ use crate::solving::Came;
 use crate::solving::solve;
 use answers::Answer;
 use bench_checks::tally::DENSE;
+use bench_checks::tally::SLOW;
 use bench_checks::tally::SPARSE;
 use bench_checks::tally::count;
 use bench_checks::tally::hold;
@@ -87,16 +88,16 @@ fn same_rows(a: [u64; 122], b: [u64; 122]) -> bool {
 }
 
 // Counts an answer, which must be one of a run.
-fn counted(tally: &mut [u64; 79], row: usize, answer: Answer)
-    requires { ⌜ row < 7 ⌝ }
+fn counted(tally: &mut [u64; 90], row: usize, answer: Answer)
+    requires { ⌜ row < 8 ⌝ }
 {
     count(tally, row, answer);
     hold(tally, ran(answer));
 }
 
 // Counts an answer, and holds it and its table to the first that sparse gave.
-fn held(tally: &mut [u64; 79], row: usize, first: Came, found: Came)
-    requires { ⌜ row < 7 ⌝ }
+fn held(tally: &mut [u64; 90], row: usize, first: Came, found: Came)
+    requires { ⌜ row < 8 ⌝ }
 {
     let must = first.answer;
     let answer = found.answer;
@@ -105,16 +106,17 @@ fn held(tally: &mut [u64; 79], row: usize, first: Came, found: Came)
     hold(tally, same_table(first, found));
 }
 
-// Sparse and dense are held to the first list; whether lazy gave another table is told.
-fn compared(tally: &mut [u64; 79], first: ByEach, again: ByEach) -> bool {
+// Sparse and both dense engines are held to the first list; whether lazy gave another table is told.
+fn compared(tally: &mut [u64; 90], first: ByEach, again: ByEach) -> bool {
     held(tally, SPARSE, first.sparse, again.sparse);
     held(tally, DENSE, first.sparse, again.dense);
+    held(tally, SLOW, first.sparse, again.slow);
     !same_table(first.lazy, again.lazy)
 }
 
 // The m equations in another order; tells whether lazy gave another table.
 fn reordered(
-    tally: &mut [u64; 79],
+    tally: &mut [u64; 90],
     seen: &mut [u64; 5],
     seed: &mut u64,
     n: usize,
@@ -131,19 +133,20 @@ fn reordered(
     compared(tally, first, solve(n, m, rows, constants))
 }
 
-// The list that was drawn: dense is held to sparse.
-fn drawn_first(tally: &mut [u64; 79], seen: &mut [u64; 5], first: ByEach) {
+// The list that was drawn: both dense engines are held to sparse.
+fn drawn_first(tally: &mut [u64; 90], seen: &mut [u64; 5], first: ByEach) {
     let sparse = first.sparse;
     let answer = sparse.answer;
     counted(tally, SPARSE, answer);
     held(tally, DENSE, sparse, first.dense);
+    held(tally, SLOW, sparse, first.slow);
     count_if(seen, DRAWN, true);
     count_if(seen, LAZY_APART, !same_table(sparse, first.lazy));
 }
 
 // Other orders of the m equations, and then one of them listed twice.
 fn in_orders(
-    tally: &mut [u64; 79],
+    tally: &mut [u64; 90],
     seen: &mut [u64; 5],
     seed: &mut u64,
     n: usize,
@@ -165,7 +168,7 @@ fn in_orders(
     count_if(seen, LAZY_TWICE, changed);
 }
 
-fn system(tally: &mut [u64; 79], seen: &mut [u64; 5], seed: &mut u64, n: usize, m: usize)
+fn system(tally: &mut [u64; 90], seen: &mut [u64; 5], seed: &mut u64, n: usize, m: usize)
     requires { ⌜ (n ≤ 80) × (m ≤ 60) ⌝ }
 {
     let drawn = draw(seed, n, m);
@@ -176,7 +179,7 @@ fn system(tally: &mut [u64; 79], seen: &mut [u64; 5], seed: &mut u64, n: usize, 
     in_orders(tally, seen, seed, n, m, &mut rows, &mut constants, first);
 }
 
-pub fn systems(tally: &mut [u64; 79], seen: &mut [u64; 5], seed: &mut u64) {
+pub fn systems(tally: &mut [u64; 90], seen: &mut [u64; 5], seed: &mut u64) {
     let mut k: usize = 0;
     while k < SYSTEMS {
         let m = below(seed, 61);

@@ -1,4 +1,5 @@
-// Dense elimination, replayed.
+// Dense elimination, replayed by both dense engines.
+use answers::Answer;
 use lent_cells::cells::marked_numbers;
 use lent_cells::cells::marked_words;
 use replay_cases::judging::judged;
@@ -35,7 +36,34 @@ fn dense_room(n: usize, m: usize, w: usize) -> Room {
     }
 }
 
+fn eliminate_rows(
+    slow: bool,
+    n: usize,
+    m: usize,
+    w: usize,
+    rows: &[u64],
+    constants: &[u64],
+    solution: &mut [u64],
+    numbers: &mut [u32],
+    words: &mut [u64],
+) -> Answer {
+    if slow {
+        return slow_dense::slow_gaussian_elimination(
+            n,
+            m,
+            w,
+            rows,
+            constants,
+            solution,
+            numbers,
+            words,
+        );
+    }
+    dense::dense_gaussian_elimination(n, m, w, rows, constants, solution, numbers, words)
+}
+
 fn dense_lent(
+    slow: bool,
     n: usize,
     m: usize,
     w: usize,
@@ -48,20 +76,12 @@ fn dense_lent(
     numbers: &mut [u32],
     words: &mut [u64],
 ) -> bool {
-    let answer = dense::dense_gaussian_elimination(
-        n,
-        m,
-        w,
-        rows,
-        constants,
-        solution,
-        numbers,
-        words,
-    );
+    let answer = eliminate_rows(slow, n, m, w, rows, constants, solution, numbers, words);
     judged(answer, want, room, solution, found, numbers, words)
 }
 
 fn dense_way(
+    slow: bool,
     n: usize,
     m: usize,
     w: usize,
@@ -80,6 +100,7 @@ fn dense_way(
     let j = lent.numbers;
     let k = lent.others;
     dense_lent(
+        slow,
         n,
         m,
         w,
@@ -105,7 +126,10 @@ fn dense_ways(
 ) -> bool {
     let mut way = 0;
     while way < WAYS {
-        if !dense_way(n, m, w, rows, constants, said, found, way) {
+        if !dense_way(false, n, m, w, rows, constants, said, found, way) {
+            return false;
+        }
+        if !dense_way(true, n, m, w, rows, constants, said, found, way) {
             return false;
         }
         way += 1;

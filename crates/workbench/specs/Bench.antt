@@ -12,6 +12,7 @@ use Rattle.answers.specs.declared.Answer.the-variants.{Solved, TooLarge, BadSha
 use Rattle.equation.specs.Sums.{SumCall, sumCall}
 use Rattle.sparse_rules.specs.SparseCall.{sparseCall}
 use Rattle.dense.specs.Call.{denseCall}
+use Rattle.slow_rules.specs.SlowCall.{slowCall}
 use Rattle.lazy_calls.specs.LazyCall.{lazyCall}
 use Rattle.peeling.specs.declared.numbers.Edge.{Edge}
 use Rattle.peel_rules.specs.Edges.{edge}
@@ -25,6 +26,7 @@ pub data Case : Type 0 where
   byLazy : ℕ → List ℕ → List ℕ → List ℕ → Case
   -- n, row words, rows, constants
   byDense : ℕ → ℕ → List ℕ → List ℕ → Case
+  bySlow : ℕ → ℕ → List ℕ → List ℕ → Case
   -- n, edges
   byHigh : ℕ → List Edge → Case
   byLow : ℕ → List Edge → Case
@@ -85,6 +87,8 @@ comesTo (byLazy n starts vars constants) =
     ofSolver (lazyCall n (length constants) starts vars constants (zeros n) (zeros (lazyNumbers n (length constants) (length vars))) (zeros (lazyWords (length constants))))
 comesTo (byDense n w rows constants) =
     ofSolver (denseCall n (length constants) w rows constants (zeros n) (zeros (denseNumbers (length constants))) (zeros (denseWords (length constants) w)))
+comesTo (bySlow n w rows constants) =
+    ofSolver (slowCall n (length constants) w rows constants (zeros n) (zeros (denseNumbers (length constants))) (zeros (denseWords (length constants) w)))
 comesTo (byHigh n edges) = ofPeeler (peelHighCall n edges (zeros n) (zeros (peelHighNumbers n (length edges))) (zeros (peelHighBytes n (length edges))))
 comesTo (byLow n edges) = ofPeeler (peelLowCall n edges (zeros n) (zeros (peelLowNumbers n)) (zeros (peelLowBytes n)))
 comesTo (bySum left left-c right right-c) = ofSum (sumCall left right left-c right-c (zeros (length left + length right)))
@@ -131,12 +135,12 @@ peelLines by =
     ∷ []
 
 -- P9: a row with bits 0 and 1; and the bits at the edge of a word
-abbrev pub denseLines : List Line
-denseLines =
-    must (byDense 2 1 (3 ∷ []) (7 ∷ [])) (values (7 ∷ 0 ∷ []))
-    ∷ must (byDense 64 1 (9223372036854775808 ∷ []) (9 ∷ [])) (values (zeros 63 ++ (9 ∷ [])))
-    ∷ must (byDense 65 2 (0 ∷ 1 ∷ []) (9 ∷ [])) (values (zeros 64 ++ (9 ∷ [])))
-    ∷ must (byDense 64 2 (0 ∷ 1 ∷ []) (9 ∷ [])) (refusal 3 0)
+abbrev pub denseLines : (ℕ → ℕ → List ℕ → List ℕ → Case) → List Line
+denseLines by =
+    must (by 2 1 (3 ∷ []) (7 ∷ [])) (values (7 ∷ 0 ∷ []))
+    ∷ must (by 64 1 (9223372036854775808 ∷ []) (9 ∷ [])) (values (zeros 63 ++ (9 ∷ [])))
+    ∷ must (by 65 2 (0 ∷ 1 ∷ []) (9 ∷ [])) (values (zeros 64 ++ (9 ∷ [])))
+    ∷ must (by 64 2 (0 ∷ 1 ∷ []) (9 ∷ [])) (refusal 3 0)
     ∷ []
 
 -- P10: {1,3,5} plus {3,4}, and a list plus itself
@@ -147,7 +151,7 @@ sumLines =
     ∷ []
 
 abbrev pub table : List Line
-table = sparseLines ++ (lazyLines ++ (peelLines byHigh ++ (peelLines byLow ++ (denseLines ++ sumLines))))
+table = sparseLines ++ (lazyLines ++ (peelLines byHigh ++ (peelLines byLow ++ (denseLines byDense ++ (denseLines bySlow ++ sumLines)))))
 
 -- the case comes to what it must
 abbrev pub Comes : Line → Type 0

@@ -6,7 +6,7 @@ mod sums;
 fn main() {
     sums::dense_sums();
     sums::crowds();
-    let mut tally = [0u64; 79];
+    let mut tally = [0u64; 90];
     let mut seed: u64 = 88172645463325252;
     runs::systems(&mut tally, &mut seed);
     runs::graphs(&mut tally, &mut seed);

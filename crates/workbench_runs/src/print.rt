@@ -26,8 +26,8 @@ fn count_line(name: &[u8], answer: usize, times: u64) {
 }
 
 // The answers of one row of the tally.
-fn row_lines(tally: &[u64; 79], row: usize, name: &[u8])
-    requires { ⌜ row < 7 ⌝ }
+fn row_lines(tally: &[u64; 90], row: usize, name: &[u8])
+    requires { ⌜ row < 8 ⌝ }
 {
     let mut k: usize = 0;
     while k < 11 {
@@ -36,9 +36,10 @@ fn row_lines(tally: &[u64; 79], row: usize, name: &[u8])
     }
 }
 
-pub fn counts(tally: &[u64; 79]) {
+pub fn counts(tally: &[u64; 90]) {
     row_lines(tally, 0, b"sparse");
     row_lines(tally, 1, b"dense");
+    row_lines(tally, 7, b"slow");
     row_lines(tally, 2, b"lazy");
     row_lines(tally, 3, b"check");
     row_lines(tally, 4, b"peel, high");

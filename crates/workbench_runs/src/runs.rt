@@ -94,7 +94,7 @@ fn spoil_unless(planted: bool, seed: &mut u64, m: usize, constants: &mut [u64])
 }
 
 // A system of m equations in n variables, by all solvers.
-fn system(tally: &mut [u64; 79], seed: &mut u64, n: usize, m: usize)
+fn system(tally: &mut [u64; 90], seed: &mut u64, n: usize, m: usize)
     requires { ⌜ (n ≤ 130) × (m ≤ 130) ⌝ }
 {
     let mut starts = [0u32; 131];
@@ -133,7 +133,7 @@ fn system(tally: &mut [u64; 79], seed: &mut u64, n: usize, m: usize)
     );
 }
 
-pub fn systems(tally: &mut [u64; 79], seed: &mut u64) {
+pub fn systems(tally: &mut [u64; 90], seed: &mut u64) {
     let mut k: usize = 0;
     while k < SYSTEMS {
         let m = below(seed, 131);
@@ -161,7 +161,7 @@ fn draw_size(seed: &mut u64, n: usize) -> usize
     least(below(seed, n + n / 4), 256)
 }
 
-fn graph(tally: &mut [u64; 79], seed: &mut u64, n: usize)
+fn graph(tally: &mut [u64; 90], seed: &mut u64, n: usize)
     requires { ⌜ (3 ≤ n) × (n ≤ 300) ⌝ }
 {
     let hubs = draw_hubs(seed, n);
@@ -170,7 +170,7 @@ fn graph(tally: &mut [u64; 79], seed: &mut u64, n: usize)
     bench_peels::graphs::compare(tally, table, m, n);
 }
 
-pub fn graphs(tally: &mut [u64; 79], seed: &mut u64) {
+pub fn graphs(tally: &mut [u64; 90], seed: &mut u64) {
     let mut k: usize = 0;
     while k < GRAPHS {
         graph(tally, seed, 3 + k % 298);

@@ -1,4 +1,5 @@
 -- The two exchanges, lifted to rows.
+use Prim.Native.Nat.{_<_}
 use native.Mathlib.Omega.{arith}
 use borrow.Author.Needs.{needs}
 use Rattle.dense_steps.proofs.AreaSteps.{two-rows, swapped-became}
@@ -8,7 +9,8 @@ use Rattle.dense_steps.proofs.swap_rows.Tie as tie
 returns : tie.Need-returns
 returns c =
     let s = c .before .before .before .before .before .before .before .before .before in
-    swapped-became (s .args .m) (s .args .w) (s .args .words .now) (s .pre .3) (s .args .word) (s .args .i) (s .args .j) (s .pre .0) (s .pre .1) (s .pre .2) _ _
+    let hi : s .args .i < s .args .m = omega (arith, s .pre) in
+    swapped-became (s .args .m) (s .args .w) (s .args .words .now) (s .pre .3) (s .args .word) (s .args .i) (s .args .j) (s .pre .0) hi (s .pre .2) (s .pre .1) _ _
     (c .before .before .before .before .before .before .exchange-words .ensures) (c .before .before .exchange-words2 .ensures)
 
 pub swap-rows-spec : {M : Type 1} → statement M

@@ -8,27 +8,21 @@ use Rattle.bench_checks.proofs.systems.dense_on.Reads as reads
 use Rattle.bench_checks.proofs.systems.dense_on.Lts as lts
 use Rattle.bench_checks.proofs.systems.by_dense.Reads as by-dense-reads
 
--- src/systems.rt:292:9
 array-borrow-prefix-x : tie.Need-array-borrow-prefix-x
 array-borrow-prefix-x c = search needs
 
--- src/systems.rt:292:9
 slice-aggregate-by-dense : tie.Need-slice-aggregate-by-dense
 slice-aggregate-by-dense c = sym (length-take-le _ _ (omega arith))
 
--- src/systems.rt:293:9
 slice-aggregate-by-dense-2 : tie.Need-slice-aggregate-by-dense-2
 slice-aggregate-by-dense-2 c = search needs
 
--- src/systems.rt:294:9
 slice-aggregate-by-dense-3 : tie.Need-slice-aggregate-by-dense-3
 slice-aggregate-by-dense-3 c = search needs
 
--- src/systems.rt:283:9
 by-dense-requires : tie.Need-by-dense-requires
 by-dense-requires c κs = search needs
 
--- src/systems.rt:268:1
 returns : tie.Need-returns
 returns c = search needs
 

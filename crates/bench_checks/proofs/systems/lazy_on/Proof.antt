@@ -8,27 +8,21 @@ use Rattle.bench_checks.proofs.systems.lazy_on.Reads as reads
 use Rattle.bench_checks.proofs.systems.lazy_on.Lts as lts
 use Rattle.bench_checks.proofs.systems.by_lazy.Reads as by-lazy-reads
 
--- src/systems.rt:261:9
 array-borrow-prefix-x : tie.Need-array-borrow-prefix-x
 array-borrow-prefix-x c = search needs
 
--- src/systems.rt:261:9
 slice-aggregate-by-lazy : tie.Need-slice-aggregate-by-lazy
 slice-aggregate-by-lazy c = sym (length-take-le _ _ (omega arith))
 
--- src/systems.rt:262:9
 slice-aggregate-by-lazy-2 : tie.Need-slice-aggregate-by-lazy-2
 slice-aggregate-by-lazy-2 c = search needs
 
--- src/systems.rt:263:9
 slice-aggregate-by-lazy-3 : tie.Need-slice-aggregate-by-lazy-3
 slice-aggregate-by-lazy-3 c = search needs
 
--- src/systems.rt:254:9
 by-lazy-requires : tie.Need-by-lazy-requires
 by-lazy-requires c κs = search needs
 
--- src/systems.rt:241:1
 returns : tie.Need-returns
 returns c = search needs
 

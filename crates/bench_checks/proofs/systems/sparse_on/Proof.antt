@@ -8,27 +8,21 @@ use Rattle.bench_checks.proofs.systems.sparse_on.Reads as reads
 use Rattle.bench_checks.proofs.systems.sparse_on.Lts as lts
 use Rattle.bench_checks.proofs.systems.by_sparse.Reads as by-sparse-reads
 
--- src/systems.rt:234:9
 array-borrow-prefix-x : tie.Need-array-borrow-prefix-x
 array-borrow-prefix-x c = search needs
 
--- src/systems.rt:234:9
 slice-aggregate-by-sparse : tie.Need-slice-aggregate-by-sparse
 slice-aggregate-by-sparse c = sym (length-take-le _ _ (omega arith))
 
--- src/systems.rt:235:9
 slice-aggregate-by-sparse-2 : tie.Need-slice-aggregate-by-sparse-2
 slice-aggregate-by-sparse-2 c = search needs
 
--- src/systems.rt:236:9
 slice-aggregate-by-sparse-3 : tie.Need-slice-aggregate-by-sparse-3
 slice-aggregate-by-sparse-3 c = search needs
 
--- src/systems.rt:227:9
 by-sparse-requires : tie.Need-by-sparse-requires
 by-sparse-requires c κs = search needs
 
--- src/systems.rt:214:1
 returns : tie.Need-returns
 returns c = search needs
 

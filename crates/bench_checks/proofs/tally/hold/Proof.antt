@@ -6,7 +6,7 @@ use Rattle.bench_checks.proofs.tally.hold.Statement.{statement}
 use Rattle.bench_checks.proofs.tally.hold.Tie as tie
 
 returns : tie.Need-returns
-returns c = rw (not-true (c .before .before .before .before .before .args .good) (c .before .before .if1 .taken)) (c .add-one2 .ensures ∙ ap (oneMore 78) (c .before .before .before .add-one .ensures))
+returns c = rw (not-true (c .before .before .before .before .before .args .good) (c .before .before .if1 .taken)) (c .add-one2 .ensures ∙ ap (oneMore 89) (c .before .before .before .add-one .ensures))
 
 returns-2 : tie.Need-returns-2
 returns-2 c = rw (not-false (c .before .before .before .args .good) (c .if1 .left)) (c .before .add-one .ensures)

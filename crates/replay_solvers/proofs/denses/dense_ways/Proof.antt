@@ -18,6 +18,8 @@ dense-ways-spec =
     (λ c. search needs)  -- loop-holds
     (λ c κs. search needs)  -- dense-way-requires
     (λ c. search needs)  -- returns
+    (λ c κs. search needs)  -- dense-way-requires-2
+    (λ c. search needs)  -- returns-2
     (λ c. search needs)  -- add-way
     (λ c. search needs)  -- loop-less
     (λ c. search needs)  -- loop-again

@@ -1,0 +1,4 @@
+pub mod ClearingAbove
+pub mod ClearingColumns
+pub mod ReadingPivots
+pub mod SlowRunning

@@ -1,0 +1,4 @@
+pub mod ColumnsCleared
+pub mod ReadingOff
+pub mod SlowTheorems
+pub mod Examples

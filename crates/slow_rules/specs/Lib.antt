@@ -1,0 +1,2 @@
+pub mod Slow
+pub mod SlowCall
