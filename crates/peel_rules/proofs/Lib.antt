@@ -19,3 +19,4 @@ pub mod PeelRoom
 pub mod PeelTheorems
 pub mod PeelCalls
 pub mod CallTheorems
+pub mod CallExamples
