@@ -29,7 +29,7 @@ unfoldable pub xorIn : (Incidence → ℕ) → ℕ → List Incidence → ℕ
 xorIn f v [] = 0
 xorIn f v (j ∷ js) = cond (eqb v (j .vertex)) (bitXor (f j) (xorIn f v js)) (xorIn f v js)
 
--- n vertices after adds and removals by the graph's calls: the incidences, the graph, its flag, and whether a 64th incidence came to a vertex
+-- n vertices after adds and removals by the graph's calls: the incidences, the graph, its flag, and whether some vertex had a 64th
 pub data Changed (n : ℕ) : List Incidence → Graph → Bool → Bool → Type 0 where
   fresh : Changed n [] (graphOf (zeros n) (zeros n)) false false
   added : {js : List Incidence} {g : Graph} {flag crowd : Bool} (v i t : ℕ) → v < n → t < 3 → Changed n js g flag crowd
