@@ -1,11 +1,11 @@
 -- What the sum means: it is the sum of the two equations, is met exactly where they agree, and tells how many variables both had.
-use mathlib.Core.Path.{_≡_, sym, ap, _∙_, subst}
-use mathlib.Core.Logic.{_↔_, _≢_}
+use mathlib.Core.Path.{_≡_, refl, sym, ap, _∙_, subst}
+use mathlib.Core.Logic.{_↔_, _≢_, _⊎_, inl, inr}
 use mathlib.Core.Bool.{Bool, true, false, _&&_}
 use mathlib.Core.List.{List}
 use Prim.Native.Nat.{ℕ, _+_, _≤_, _<_}
 use native.Mathlib.Omega.{arith}
-use borrow.Author.Tests.{le-leb, lt-leb}
+use borrow.Author.Tests.{le-leb, lt-leb, leb-false}
 use lib.ListN.{length}
 use lib.Dec.{leb}
 use lib.Bits.{bitXor}
@@ -32,10 +32,42 @@ pub sum-made : (l r : List ℕ) (lc rc : ℕ) (out : List ℕ) → length l ≤ 
 unfolding sumCall
 sum-made l r lc rc out hl hr il ir room = simp (le-leb _ _ hl, le-leb _ _ hr, increasing-rises l il, increasing-rises r ir, le-leb _ _ room)
 
--- a list that is too long comes before all else
-pub sum-too-large : (l r : List ℕ) (lc rc : ℕ) (out : List ℕ) → maxListed < length l → sumCall l r lc rc out ≡ refusedSum TooLarge out
+-- a list that is too long, the left one or the right one, comes before all else
+pub sum-large-refused : (l r : List ℕ) (lc rc : ℕ) (out : List ℕ) → (maxListed < length l) ⊎ (maxListed < length r) → sumCall l r lc rc out ≡ refusedSum TooLarge out
 unfolding sumCall
-sum-too-large l r lc rc out h = simp (lt-leb _ _ h)
+sum-large-refused l r lc rc out (inl h) = simp (lt-leb _ _ h)
+sum-large-refused l r lc rc out (inr h) = rw (lt-leb (length r) maxListed h) (ap (λ (t : Bool). pick t inner (refusedSum TooLarge out)) (and-false (leb (length l) maxListed)))
+  where
+    inner : SumCall
+    inner =
+        pick (rises l) (pick (rises r) (pick (leb (length l + length r) (length out)) (madeSum l r lc rc out) (refusedSum ShortArea out)) (refusedSum (BadEntry 1) out)) (refusedSum (BadEntry 0) out)
+
+    and-false : (b : Bool) → (b && false) ≡ false
+    and-false true = refl
+    and-false false = refl
+
+-- 1 exactly where one of the two lists is too long
+pub sum-too-large : (l r : List ℕ) (lc rc : ℕ) (out : List ℕ) → (sumCall l r lc rc out .result .answer ≡ TooLarge) ↔ ((maxListed < length l) ⊎ (maxListed < length r))
+unfolding sumCall
+sum-too-large l r lc rc out =
+    ((λ e. go (leb (length l) maxListed) (leb (length r) maxListed) refl refl e), (λ h. ap (λ (call : SumCall). call .result .answer) (sum-large-refused l r lc rc out h)))
+  where
+    other : (answer : Answer) → numberOf answer ≢ 1 → answer ≢ TooLarge
+    other answer h e = h (ap numberOf e)
+
+    either : (t : Bool) (a b : SumCall) → a .result .answer ≢ TooLarge → b .result .answer ≢ TooLarge → pick t a b .result .answer ≢ TooLarge
+    either true a b p q = p
+    either false a b p q = q
+
+    go : (a b : Bool) → leb (length l) maxListed ≡ a → leb (length r) maxListed ≡ b
+        → pick (a && b) (pick (rises l) (pick (rises r) (pick (leb (length l + length r) (length out)) (madeSum l r lc rc out) (refusedSum ShortArea out)) (refusedSum (BadEntry 1) out)) (refusedSum (BadEntry 0) out)) (refusedSum TooLarge out) .result .answer ≡ TooLarge
+        → (maxListed < length l) ⊎ (maxListed < length r)
+    go true true p q e =
+        absurd (either (rises l) _ _
+        (either (rises r) _ _ (either (leb (length l + length r) (length out)) (madeSum l r lc rc out) _ (other Solved (λ z. absurd (omega arith))) (other ShortArea (λ z. absurd (omega arith))))
+        (other (BadEntry 1) (λ z. absurd (omega arith)))) (other (BadEntry 0) (λ z. absurd (omega arith))) e)
+    go true false p q e = inr (leb-false (length r) maxListed q)
+    go false b p q e = inl (leb-false (length l) maxListed p)
 
 -- the equation that a call leaves: the first `len` numbers of `out`, and the constant
 abbrev pub summedEquation : SumCall → Equation
