@@ -33,7 +33,7 @@ use Rattle.dense_rows.proofs.StepLaws.{Wide}
 use Rattle.dense_walk.specs.Eliminate.{residue, denseElimination}
 use Rattle.dense_walk.proofs.RowTheorems.{sorted-rows, wide-good, residue-none, residue-some, rows-canonical, rows-cancel}
 use Rattle.dense.specs.Call.{denseRules, denseCall}
-use Rattle.dense.proofs.Lending.{admitted-by}
+use Rattle.dense.proofs.Lending.{dense-kept-sound}
 use Rattle.dense.proofs.CallTheorems.{DenseLent, denseOn, denseSystem, DenseRuns, denseCall-solves, denseCall-exact, denseCall-canonical, denseCall-isolated, denseCall-narrow}
 use Rattle.slow_rules.specs.Slow.{PivotRow, Progress, untouched, clearColumns, readOff, readEnd, slowElimination}
 use Rattle.slow_rules.specs.SlowCall.{slowCall}
@@ -142,7 +142,7 @@ module _ (n w : ℕ) (rows : List Row) (wide : Each (Wide w) rows) (hn : n ≤ 6
 
 pub slow-same : (n m w : ℕ) (rows constants : List ℕ) → denseRules n m w rows constants ≡ Kept → slowElimination n (rowsOf m w rows constants) ≡ denseElimination n (rowsOf m w rows constants)
 slow-same n m w rows constants k =
-    let a = admitted-by n m w rows constants k in
+    let a = dense-kept-sound n m w rows constants k in
     slow-rows-same n w (rowsOf m w rows constants) (rows-wide m w rows constants (a .rows-there)) (a .columns-there)
 
 -- Answer, place, solution and both areas are those of the dense call, on every input.
