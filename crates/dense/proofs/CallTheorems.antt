@@ -1,6 +1,6 @@
 -- The theorems of dense elimination, of its public call: what the solution slice holds after 0, and when the answer is 6.
 use mathlib.Core.Path.{_≡_, ap}
-use mathlib.Core.Logic.{_↔_}
+use mathlib.Core.Logic.{_↔_, _⊎_, inl, inr}
 use mathlib.Core.Bool.{Bool, true, false, _&&_}
 use mathlib.Core.List.{List, [], _∷_}
 use Prim.Native.Nat.{ℕ, suc, _*_, _<_, _^_}
@@ -17,7 +17,7 @@ use Rattle.answers.specs.Sizes.{maxVariables, maxEquations, maxRowWords, denseN
 use Rattle.answers.specs.declared.Answer.the-variants.{Solved, TooLarge, BadShape, BadEntry, Unsolvable}
 use Rattle.answers.specs.declared.Rules.{Rules}
 use Rattle.answers.specs.declared.Rules.the-variants.{Kept, Broken}
-use Rattle.answers.proofs.Calls.{Early, Admitted, solved-call, unsolvable-call, none-call}
+use Rattle.answers.proofs.Calls.{Early, Admitted, call-two, solved-call, unsolvable-call, none-call}
 use Rattle.dense_rows.specs.Bits.{Row, rowFits}
 use Rattle.dense_rows.specs.Rows.{rowsOf}
 use Rattle.dense_walk.specs.Eliminate.{denseElimination}
@@ -66,8 +66,7 @@ denseSystem n l = denseEquations n (l .m) (l .w) (l .rows) (l .constants)
 -- no refusal from 1 to 5
 abbrev pub DenseRuns : ℕ → DenseLent → Type 0
 DenseRuns n l =
-    Admitted n (denseNumbers (l .m)) (denseWords (l .m) (l .w)) (denseElimination n (rowsOf (l .m) (l .w) (l .rows) (l .constants))) (l .solution) (l .numbers) (l .words)
-    (denseRules n (l .m) (l .w) (l .rows) (l .constants))
+    Admitted n (denseNumbers (l .m)) (denseWords (l .m) (l .w)) (l .solution) (l .numbers) (l .words) (denseRules n (l .m) (l .w) (l .rows) (l .constants))
 
 -- the rules are kept, and the run has what the solution slice holds
 solved : (n : ℕ) (l : DenseLent) → denseOn n l .answer ≡ Solved
@@ -99,6 +98,21 @@ denseCall-exact n l a = (forth, back)
         ap (λ (r : Call). r .answer)
         (none-call n (denseNumbers (l .m)) (denseWords (l .m) (l .w)) (denseElimination n (rowsOf (l .m) (l .w) (l .rows) (l .constants))) (l .solution) (l .numbers) (l .words)
         (denseRules n (l .m) (l .w) (l .rows) (l .constants)) a (dense-exact n (l .m) (l .w) (l .rows) (l .constants) (a .kept) .1 c))
+
+-- a call that is not refused: 0, and n values that meet every equation; or 6, and some set of equations cancels
+pub denseCall-says : (n : ℕ) (l : DenseLent) → DenseRuns n l
+    → ((denseOn n l .answer ≡ Solved) × (length (denseOn n l .solution) ≡ n) × MeetsAll (denseOn n l .solution) (denseSystem n l))
+    ⊎ ((denseOn n l .answer ≡ Unsolvable) × ((mask : List Bool) × Cancels mask (denseSystem n l)))
+unfolding denseCall
+denseCall-says n l a =
+    go (call-two n (denseNumbers (l .m)) (denseWords (l .m) (l .w)) (denseElimination n (rowsOf (l .m) (l .w) (l .rows) (l .constants))) (l .solution) (l .numbers) (l .words)
+    (denseRules n (l .m) (l .w) (l .rows) (l .constants)) a)
+  where
+    go : (denseOn n l .answer ≡ Solved) ⊎ (denseOn n l .answer ≡ Unsolvable)
+        → ((denseOn n l .answer ≡ Solved) × (length (denseOn n l .solution) ≡ n) × MeetsAll (denseOn n l .solution) (denseSystem n l))
+        ⊎ ((denseOn n l .answer ≡ Unsolvable) × ((mask : List Bool) × Cancels mask (denseSystem n l)))
+    go (inl e) = inl (let s = denseCall-solves n l e in (e, s .0, s .1))
+    go (inr e) = inr (e, denseCall-exact n l a .0 e)
 
 pub denseCall-narrow : (n : ℕ) (l : DenseLent) (k : ℕ) → ((i : ℕ) → i < l .m → getD (l .constants) i 0 < 2 ^ k) → denseOn n l .answer ≡ Solved → (v : ℕ) → getD (denseOn n l .solution) v 0 < 2 ^ k
 denseCall-narrow n l k h e = let s = solved n l e in dense-narrow n (l .m) (l .w) (l .rows) (l .constants) (s .0) k h (denseOn n l .solution) (s .1)

@@ -1,6 +1,6 @@
 -- The theorems of lazy elimination, of its public call: what the solution slice holds after 0, when the answer is 6, and what is told of the sums.
 use mathlib.Core.Path.{_≡_}
-use mathlib.Core.Logic.{_↔_}
+use mathlib.Core.Logic.{_↔_, _⊎_}
 use mathlib.Core.Bool.{Bool, true}
 use mathlib.Core.List.{List}
 use Prim.Native.Nat.{ℕ, _+_, _*_, _≤_, _<_, _^_}
@@ -15,7 +15,7 @@ use Rattle.answers.specs.declared.Answer.the-variants.{Solved, Unsolvable}
 use Rattle.answers.proofs.Reported.{Reports, call-reports, call-reports-le}
 use Rattle.system.specs.System.{systemRules}
 use Rattle.system.proofs.Soundness.{kept-sound, rules-early}
-use Rattle.system.proofs.SolverCalls.{Lent, system, Runs, call-solves, call-exact, call-narrow, call-isolated}
+use Rattle.system.proofs.SolverCalls.{Lent, system, Runs, call-solves, call-exact, call-says, call-narrow, call-isolated}
 use Rattle.lazy.specs.Lazy.{lazyElimination}
 use Rattle.lazy.specs.Cancelled.{lazyCancels}
 use Rattle.lazy.proofs.Cancelled.{lazy-fits}
@@ -31,7 +31,7 @@ lazyOn n l = lazyCall n (l .m) (l .starts) (l .vars) (l .constants) (l .solution
 
 -- no refusal from 1 to 5
 abbrev pub LazyRuns : ℕ → Lent → Type 0
-LazyRuns n l = Runs lazyElimination lazyNumbers wordsRoom lazy-solves lazy-exact lazy-narrow lazy-isolated n l
+LazyRuns n l = Runs lazyNumbers wordsRoom n l
 
 pub lazyCall-solves : (n : ℕ) (l : Lent) → lazyOn n l .answer ≡ Solved → (length (lazyOn n l .solution) ≡ n) × MeetsAll (lazyOn n l .solution) (system l)
 unfolding lazyCall
@@ -40,6 +40,13 @@ lazyCall-solves n l = call-solves lazyElimination lazyNumbers wordsRoom lazy-sol
 pub lazyCall-exact : (n : ℕ) (l : Lent) → LazyRuns n l → (lazyOn n l .answer ≡ Unsolvable) ↔ ((mask : List Bool) × Cancels mask (system l))
 unfolding lazyCall
 lazyCall-exact n l = call-exact lazyElimination lazyNumbers wordsRoom lazy-solves lazy-exact lazy-narrow lazy-isolated n l
+
+-- a call that is not refused: 0, and n values that meet every equation; or 6, and some set of equations cancels
+pub lazyCall-says : (n : ℕ) (l : Lent) → LazyRuns n l
+    → ((lazyOn n l .answer ≡ Solved) × (length (lazyOn n l .solution) ≡ n) × MeetsAll (lazyOn n l .solution) (system l))
+    ⊎ ((lazyOn n l .answer ≡ Unsolvable) × ((mask : List Bool) × Cancels mask (system l)))
+unfolding lazyCall
+lazyCall-says n l = call-says lazyElimination lazyNumbers wordsRoom lazy-solves lazy-exact lazy-narrow lazy-isolated n l
 
 pub lazyCall-narrow : (n : ℕ) (l : Lent) (k : ℕ) → Each (λ e. e .c < 2 ^ k) (system l) → lazyOn n l .answer ≡ Solved → (v : ℕ) → getD (lazyOn n l .solution) v 0 < 2 ^ k
 unfolding lazyCall

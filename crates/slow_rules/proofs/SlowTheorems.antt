@@ -1,6 +1,6 @@
 -- The slow dense engine answers as the dense one does, on every input.
 use mathlib.Core.Path.{_≡_, refl, sym, ap, ap₂, _∙_, subst}
-use mathlib.Core.Logic.{_↔_}
+use mathlib.Core.Logic.{_↔_, _⊎_}
 use mathlib.Core.List.{List, [], _∷_}
 use mathlib.Core.Bool.{Bool, true, false}
 use Prim.Native.Nat.{ℕ, _*_, _<_, _≤_, _^_}
@@ -34,7 +34,7 @@ use Rattle.dense_walk.specs.Eliminate.{residue, denseElimination}
 use Rattle.dense_walk.proofs.RowTheorems.{sorted-rows, wide-good, residue-none, residue-some, rows-canonical, rows-cancel}
 use Rattle.dense.specs.Call.{denseRules, denseCall}
 use Rattle.dense.proofs.Lending.{dense-kept-sound}
-use Rattle.dense.proofs.CallTheorems.{DenseLent, denseOn, denseSystem, DenseRuns, denseCall-solves, denseCall-exact, denseCall-canonical, denseCall-isolated, denseCall-narrow}
+use Rattle.dense.proofs.CallTheorems.{DenseLent, denseOn, denseSystem, DenseRuns, denseCall-solves, denseCall-exact, denseCall-says, denseCall-canonical, denseCall-isolated, denseCall-narrow}
 use Rattle.slow_rules.specs.Slow.{PivotRow, Progress, untouched, clearColumns, readOff, readEnd, slowElimination}
 use Rattle.slow_rules.specs.SlowCall.{slowCall}
 use Rattle.slow_rules.proofs.ColumnsCleared.{ClearedTo, columns-cleared, columns-ahead, columns-behind}
@@ -173,6 +173,12 @@ slowCall-solves n l = rw (slowOn-same n l) (denseCall-solves n l)
 
 pub slowCall-exact : (n : ℕ) (l : DenseLent) → DenseRuns n l → (slowOn n l .answer ≡ Unsolvable) ↔ ((mask : List Bool) × Cancels mask (denseSystem n l))
 slowCall-exact n l = rw (slowOn-same n l) (denseCall-exact n l)
+
+-- a call that is not refused: 0, and n values that meet every equation; or 6, and some set of equations cancels
+pub slowCall-says : (n : ℕ) (l : DenseLent) → DenseRuns n l
+    → ((slowOn n l .answer ≡ Solved) × (length (slowOn n l .solution) ≡ n) × MeetsAll (slowOn n l .solution) (denseSystem n l))
+    ⊎ ((slowOn n l .answer ≡ Unsolvable) × ((mask : List Bool) × Cancels mask (denseSystem n l)))
+slowCall-says n l = rw (slowOn-same n l) (denseCall-says n l)
 
 pub slowCall-narrow : (n : ℕ) (l : DenseLent) (k : ℕ) → ((i : ℕ) → i < l .m → getD (l .constants) i 0 < 2 ^ k) → slowOn n l .answer ≡ Solved → (v : ℕ) → getD (slowOn n l .solution) v 0 < 2 ^ k
 slowCall-narrow n l = rw (slowOn-same n l) (denseCall-narrow n l)

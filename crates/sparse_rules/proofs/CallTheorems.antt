@@ -1,6 +1,6 @@
 -- The theorems of sparse elimination, of its public call: what the solution slice holds after 0, when the answer is 6, and what is told of the sums.
 use mathlib.Core.Path.{_≡_}
-use mathlib.Core.Logic.{_↔_}
+use mathlib.Core.Logic.{_↔_, _⊎_}
 use mathlib.Core.Bool.{Bool, true}
 use mathlib.Core.List.{List}
 use Prim.Native.Nat.{ℕ, _*_, _≤_, _<_, _^_}
@@ -16,7 +16,7 @@ use Rattle.answers.specs.declared.Answer.the-variants.{Solved, Unsolvable}
 use Rattle.answers.proofs.Reported.{Reports, call-reports, call-reports-le}
 use Rattle.system.specs.System.{systemRules}
 use Rattle.system.proofs.Soundness.{kept-sound, rules-early}
-use Rattle.system.proofs.SolverCalls.{Lent, system, Runs, solved, call-solves, call-exact, call-narrow, call-isolated}
+use Rattle.system.proofs.SolverCalls.{Lent, system, Runs, solved, call-solves, call-exact, call-says, call-narrow, call-isolated}
 use Rattle.sparse_rules.specs.Eliminate.{gaussianElimination}
 use Rattle.sparse_rules.specs.Cancelled.{sparseCancels}
 use Rattle.sparse_rules.specs.SparseCall.{sparseCall}
@@ -35,7 +35,7 @@ sparseOn n l = sparseCall n (l .m) (l .starts) (l .vars) (l .constants) (l .solu
 
 -- no refusal from 1 to 5
 abbrev pub SparseRuns : ℕ → Lent → Type 0
-SparseRuns n l = Runs gaussianElimination numbersRoom wordsRoom sparse-solves sparse-exact sparse-narrow sparse-isolated n l
+SparseRuns n l = Runs numbersRoom wordsRoom n l
 
 pub sparseCall-solves : (n : ℕ) (l : Lent) → sparseOn n l .answer ≡ Solved → (length (sparseOn n l .solution) ≡ n) × MeetsAll (sparseOn n l .solution) (system l)
 unfolding sparseCall
@@ -50,6 +50,13 @@ sparseCall-canonical n l e =
 pub sparseCall-exact : (n : ℕ) (l : Lent) → SparseRuns n l → (sparseOn n l .answer ≡ Unsolvable) ↔ ((mask : List Bool) × Cancels mask (system l))
 unfolding sparseCall
 sparseCall-exact n l = call-exact gaussianElimination numbersRoom wordsRoom sparse-solves sparse-exact sparse-narrow sparse-isolated n l
+
+-- a call that is not refused: 0, and n values that meet every equation; or 6, and some set of equations cancels
+pub sparseCall-says : (n : ℕ) (l : Lent) → SparseRuns n l
+    → ((sparseOn n l .answer ≡ Solved) × (length (sparseOn n l .solution) ≡ n) × MeetsAll (sparseOn n l .solution) (system l))
+    ⊎ ((sparseOn n l .answer ≡ Unsolvable) × ((mask : List Bool) × Cancels mask (system l)))
+unfolding sparseCall
+sparseCall-says n l = call-says gaussianElimination numbersRoom wordsRoom sparse-solves sparse-exact sparse-narrow sparse-isolated n l
 
 pub sparseCall-narrow : (n : ℕ) (l : Lent) (k : ℕ) → Each (λ e. e .c < 2 ^ k) (system l) → sparseOn n l .answer ≡ Solved → (v : ℕ) → getD (sparseOn n l .solution) v 0 < 2 ^ k
 unfolding sparseCall
