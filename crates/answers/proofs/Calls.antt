@@ -1,6 +1,6 @@
 -- What a solver's call leaves, read back from its answer: for any rules, rooms and run.
 use mathlib.Core.Path.{_≡_, refl, sym, ap, _∙_}
-use mathlib.Core.Logic.{_⊎_, inl, inr}
+use mathlib.Core.Logic.{_≢_, _⊎_, inl, inr}
 use mathlib.Core.Bool.{Bool, true, false, _&&_, false≢true}
 use mathlib.Core.List.{List}
 use Prim.Native.Nat.{ℕ, _≤_}
@@ -111,18 +111,18 @@ module _ (n kn kw : ℕ) (run : Result (List ℕ)) (solution numbers words : Lis
 
   -- ---- what is left in the cells
 
-  keeps-way : {rules : Rules} {call : Call} → Way rules call → (call .answer ≡ Solved → ⊥) → call .solution ≡ solution
+  keeps-way : {rules : Rules} {call : Call} → Way rules call → call .answer ≢ Solved → call .solution ≡ solution
   keeps-way broken h = refl
   keeps-way (wrong g) h = refl
   keeps-way (short g k) h = refl
   keeps-way (runs a) h = go run h
     where
-      go : (r : Result (List ℕ)) → (ran kn kw r solution numbers words .answer ≡ Solved → ⊥) → ran kn kw r solution numbers words .solution ≡ solution
+      go : (r : Result (List ℕ)) → ran kn kw r solution numbers words .answer ≢ Solved → ran kn kw r solution numbers words .solution ≡ solution
       go unsolvable h = refl
       go (ok x) h = absurd (h refl)
 
   -- every number but 0 keeps the solution as lent
-  pub call-keeps : (rules : Rules) → (solverCall rules n kn kw run solution numbers words .answer ≡ Solved → ⊥) → solverCall rules n kn kw run solution numbers words .solution ≡ solution
+  pub call-keeps : (rules : Rules) → solverCall rules n kn kw run solution numbers words .answer ≢ Solved → solverCall rules n kn kw run solution numbers words .solution ≡ solution
   call-keeps rules = keeps-way (way rules)
 
   untouched-way : {rules : Rules} {call : Call} → Way rules call → 1 ≤ numberOf (call .answer) → numberOf (call .answer) ≤ 5 → (call .numbers ≡ numbers) × (call .words ≡ words)
@@ -139,13 +139,18 @@ module _ (n kn kw : ℕ) (run : Result (List ℕ)) (solution numbers words : Lis
   pub call-untouched : (rules : Rules) → 1 ≤ numberOf (solverCall rules n kn kw run solution numbers words .answer) → numberOf (solverCall rules n kn kw run solution numbers words .answer) ≤ 5 → (solverCall rules n kn kw run solution numbers words .numbers ≡ numbers) × (solverCall rules n kn kw run solution numbers words .words ≡ words)
   call-untouched rules = untouched-way (way rules)
 
-  -- after a run the room part of each work area is zero and the remainder untouched
-  pub call-cleared : (rules : Rules) → Admitted n kn kw solution numbers words rules → (solverCall rules n kn kw run solution numbers words .numbers ≡ cleared kn numbers) × (solverCall rules n kn kw run solution numbers words .words ≡ cleared kw words)
-  call-cleared rules a = rw (call-ran rules a) (go run)
+  ran-cleared : (rules : Rules) → Admitted n kn kw solution numbers words rules → (solverCall rules n kn kw run solution numbers words .numbers ≡ cleared kn numbers) × (solverCall rules n kn kw run solution numbers words .words ≡ cleared kw words)
+  ran-cleared rules a = rw (call-ran rules a) (go run)
     where
       go : (r : Result (List ℕ)) → (ran kn kw r solution numbers words .numbers ≡ cleared kn numbers) × (ran kn kw r solution numbers words .words ≡ cleared kw words)
       go unsolvable = (refl, refl)
       go (ok x) = (refl, refl)
+
+  -- after 0 and 6 the room part of each work area is zero and the remainder untouched
+  pub call-cleared : (rules : Rules) → Early rules → (solverCall rules n kn kw run solution numbers words .answer ≡ Solved) ⊎ (solverCall rules n kn kw run solution numbers words .answer ≡ Unsolvable)
+      → (solverCall rules n kn kw run solution numbers words .numbers ≡ cleared kn numbers) × (solverCall rules n kn kw run solution numbers words .words ≡ cleared kw words)
+  call-cleared rules early (inl e) = ran-cleared rules (solved-call rules early e .0)
+  call-cleared rules early (inr e) = ran-cleared rules (unsolvable-call rules early e .0)
 
   sized-way : {rules : Rules} {call : Call} → Way rules call → ((x : List ℕ) → run ≡ ok x → length x ≡ n) → length (call .solution) ≡ length solution
   sized-way broken f = refl

@@ -1,9 +1,9 @@
--- The theorems of dense elimination, of its public call: what the solution slice holds after 0, and when the answer is 6.
+-- The theorems of dense elimination, of its public call: what the solution slice holds after 0, when the answer is 6, and what is left in the lent cells.
 use mathlib.Core.Path.{_≡_, ap}
-use mathlib.Core.Logic.{_↔_, _⊎_, inl, inr}
+use mathlib.Core.Logic.{_↔_, _≢_, _⊎_, inl, inr}
 use mathlib.Core.Bool.{Bool, true, false, _&&_}
 use mathlib.Core.List.{List, [], _∷_}
-use Prim.Native.Nat.{ℕ, suc, _*_, _<_, _^_}
+use Prim.Native.Nat.{ℕ, suc, _*_, _<_, _≤_, _^_}
 use native.Mathlib.Omega.{arith}
 use lib.ListN.{length, getD}
 use lib.Dec.{leb}
@@ -12,12 +12,14 @@ use Rattle.gf2.specs.Span.{Cancels}
 use Rattle.gf2.specs.Canonical.{Canonical}
 use Rattle.gf2.specs.Ours.{Apart, ourPart}
 use Rattle.gf2.specs.Result.{ok}
+use Rattle.areas.specs.Stretch.{cleared}
+use Rattle.answers.specs.Numbers.{numberOf}
 use Rattle.answers.specs.Calls.{Call, pick}
 use Rattle.answers.specs.Sizes.{maxVariables, maxEquations, maxRowWords, denseNumbers, denseWords}
 use Rattle.answers.specs.declared.Answer.the-variants.{Solved, TooLarge, BadShape, BadEntry, Unsolvable}
 use Rattle.answers.specs.declared.Rules.{Rules}
 use Rattle.answers.specs.declared.Rules.the-variants.{Kept, Broken}
-use Rattle.answers.proofs.Calls.{Early, Admitted, call-two, solved-call, unsolvable-call, none-call}
+use Rattle.answers.proofs.Calls.{Early, Admitted, call-two, solved-call, unsolvable-call, none-call, call-keeps, call-untouched, call-cleared}
 use Rattle.dense_rows.specs.Bits.{Row, rowFits}
 use Rattle.dense_rows.specs.Rows.{rowsOf}
 use Rattle.dense_walk.specs.Eliminate.{denseElimination}
@@ -123,3 +125,28 @@ denseCall-isolated P n a b pa pb same ea eb =
     let s = solved n a ea in
     let t = solved n b eb in
     dense-isolated P n (a .m) (a .w) (b .m) (b .w) (a .rows) (a .constants) (b .rows) (b .constants) (s .0) (t .0) pa pb same (denseOn n a .solution) (denseOn n b .solution) (s .1) (t .1)
+
+-- ---- what is left in the lent cells
+
+-- every number but 0 keeps the solution as lent
+pub denseCall-keeps : (n : ℕ) (l : DenseLent) → denseOn n l .answer ≢ Solved → denseOn n l .solution ≡ l .solution
+unfolding denseCall
+denseCall-keeps n l =
+    call-keeps n (denseNumbers (l .m)) (denseWords (l .m) (l .w)) (denseElimination n (rowsOf (l .m) (l .w) (l .rows) (l .constants))) (l .solution) (l .numbers) (l .words)
+    (denseRules n (l .m) (l .w) (l .rows) (l .constants))
+
+-- after 1 to 5 the work areas are untouched
+pub denseCall-untouched : (n : ℕ) (l : DenseLent) → 1 ≤ numberOf (denseOn n l .answer) → numberOf (denseOn n l .answer) ≤ 5
+    → (denseOn n l .numbers ≡ l .numbers) × (denseOn n l .words ≡ l .words)
+unfolding denseCall
+denseCall-untouched n l =
+    call-untouched n (denseNumbers (l .m)) (denseWords (l .m) (l .w)) (denseElimination n (rowsOf (l .m) (l .w) (l .rows) (l .constants))) (l .solution) (l .numbers) (l .words)
+    (denseRules n (l .m) (l .w) (l .rows) (l .constants))
+
+-- after 0 and 6 the room part of each work area is zero and the remainder untouched
+pub denseCall-cleared : (n : ℕ) (l : DenseLent) → (denseOn n l .answer ≡ Solved) ⊎ (denseOn n l .answer ≡ Unsolvable)
+    → (denseOn n l .numbers ≡ cleared (denseNumbers (l .m)) (l .numbers)) × (denseOn n l .words ≡ cleared (denseWords (l .m) (l .w)) (l .words))
+unfolding denseCall
+denseCall-cleared n l =
+    call-cleared n (denseNumbers (l .m)) (denseWords (l .m) (l .w)) (denseElimination n (rowsOf (l .m) (l .w) (l .rows) (l .constants))) (l .solution) (l .numbers) (l .words)
+    (denseRules n (l .m) (l .w) (l .rows) (l .constants)) (dense-early n (l .m) (l .w) (l .rows) (l .constants))

@@ -1,6 +1,6 @@
 -- The slow dense engine answers as the dense one does, on every input.
 use mathlib.Core.Path.{_≡_, refl, sym, ap, ap₂, _∙_, subst}
-use mathlib.Core.Logic.{_↔_, _⊎_}
+use mathlib.Core.Logic.{_↔_, _≢_, _⊎_}
 use mathlib.Core.List.{List, [], _∷_}
 use mathlib.Core.Bool.{Bool, true, false}
 use Prim.Native.Nat.{ℕ, _*_, _<_, _≤_, _^_}
@@ -19,6 +19,8 @@ use Rattle.gf2.proofs.Elimination.{sum-twice}
 use Rattle.gf2.proofs.Canon.{canonical-from-rows, canonical-unique}
 use Rattle.gf2.proofs.OneValue.{zeros-at}
 use Rattle.gf2.proofs.Results.{Case, refused, gave, which}
+use Rattle.areas.specs.Stretch.{cleared}
+use Rattle.answers.specs.Numbers.{numberOf}
 use Rattle.answers.specs.Calls.{Call, solverCall}
 use Rattle.answers.specs.Sizes.{denseNumbers, denseWords}
 use Rattle.answers.specs.declared.Answer.the-variants.{Solved, Unsolvable}
@@ -34,7 +36,7 @@ use Rattle.dense_walk.specs.Eliminate.{residue, denseElimination}
 use Rattle.dense_walk.proofs.RowTheorems.{sorted-rows, wide-good, residue-none, residue-some, rows-canonical, rows-cancel}
 use Rattle.dense.specs.Call.{denseRules, denseCall}
 use Rattle.dense.proofs.Lending.{dense-kept-sound}
-use Rattle.dense.proofs.CallTheorems.{DenseLent, denseOn, denseSystem, DenseRuns, denseCall-solves, denseCall-exact, denseCall-says, denseCall-canonical, denseCall-isolated, denseCall-narrow}
+use Rattle.dense.proofs.CallTheorems.{DenseLent, denseOn, denseSystem, DenseRuns, denseCall-solves, denseCall-exact, denseCall-says, denseCall-canonical, denseCall-isolated, denseCall-narrow, denseCall-keeps, denseCall-untouched, denseCall-cleared}
 use Rattle.slow_rules.specs.Slow.{PivotRow, Progress, untouched, clearColumns, readOff, readEnd, slowElimination}
 use Rattle.slow_rules.specs.SlowCall.{slowCall}
 use Rattle.slow_rules.proofs.ColumnsCleared.{ClearedTo, columns-cleared, columns-ahead, columns-behind}
@@ -186,3 +188,17 @@ slowCall-narrow n l = rw (slowOn-same n l) (denseCall-narrow n l)
 pub slowCall-isolated : (P : ℕ → Bool) (n : ℕ) (a b : DenseLent) → Apart P (denseSystem n a) → Apart P (denseSystem n b) → ourPart P (denseSystem n a) ≡ ourPart P (denseSystem n b)
     → slowOn n a .answer ≡ Solved → slowOn n b .answer ≡ Solved → (v : ℕ) → P v ≡ true → getD (slowOn n a .solution) v 0 ≡ getD (slowOn n b .solution) v 0
 slowCall-isolated P n a b = rw (slowOn-same n a, slowOn-same n b) (denseCall-isolated P n a b)
+
+-- every number but 0 keeps the solution as lent
+pub slowCall-keeps : (n : ℕ) (l : DenseLent) → slowOn n l .answer ≢ Solved → slowOn n l .solution ≡ l .solution
+slowCall-keeps n l = rw (slowOn-same n l) (denseCall-keeps n l)
+
+-- after 1 to 5 the work areas are untouched
+pub slowCall-untouched : (n : ℕ) (l : DenseLent) → 1 ≤ numberOf (slowOn n l .answer) → numberOf (slowOn n l .answer) ≤ 5
+    → (slowOn n l .numbers ≡ l .numbers) × (slowOn n l .words ≡ l .words)
+slowCall-untouched n l = rw (slowOn-same n l) (denseCall-untouched n l)
+
+-- after 0 and 6 the room part of each work area is zero and the remainder untouched
+pub slowCall-cleared : (n : ℕ) (l : DenseLent) → (slowOn n l .answer ≡ Solved) ⊎ (slowOn n l .answer ≡ Unsolvable)
+    → (slowOn n l .numbers ≡ cleared (denseNumbers (l .m)) (l .numbers)) × (slowOn n l .words ≡ cleared (denseWords (l .m) (l .w)) (l .words))
+slowCall-cleared n l = rw (slowOn-same n l) (denseCall-cleared n l)
