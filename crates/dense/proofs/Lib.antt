@@ -4,3 +4,4 @@ pub mod Theorems
 pub mod Running
 pub mod Examples
 pub mod CallTheorems
+pub mod Determined

@@ -4,3 +4,4 @@ pub mod Gather
 pub mod Settle
 pub mod Meaning
 pub mod Examples
+pub mod Determined

@@ -3,3 +3,4 @@ pub mod Opening
 pub mod Closing
 pub mod Ladder
 pub mod CallTheorems
+pub mod Determined

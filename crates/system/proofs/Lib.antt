@@ -4,3 +4,4 @@ pub mod Reading
 pub mod Lowest
 pub mod Soundness
 pub mod SolverCalls
+pub mod Determined
