@@ -4,3 +4,4 @@ pub mod Closing
 pub mod Ladder
 pub mod CallTheorems
 pub mod Determined
+pub mod CallExamples

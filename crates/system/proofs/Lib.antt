@@ -5,3 +5,4 @@ pub mod Lowest
 pub mod Soundness
 pub mod SolverCalls
 pub mod Determined
+pub mod Examples
