@@ -11,7 +11,7 @@ use Rattle.gf2.specs.Equation.{Equation, Each, sum}
 use Rattle.gf2.specs.Result.{Result, unsolvable, ok}
 use Rattle.gf2.proofs.SymDiff.{each-symDiff}
 use Rattle.areas.specs.Stretch.{stretch, put, zeroed, cleared}
-use Rattle.areas.proofs.Stretch.{stretch-stretch, stretch-put-before, stretch-put-within, length-put, drop-put-after, getD-put, put-all, cleared-is-put, cleared-same}
+use Rattle.areas.proofs.Stretch.{stretch-stretch, stretch-put-before, stretch-put-within, length-put, drop-put-after, getD-put, put-all, cleared-is-put, cleared-same, drop-agree}
 use Rattle.areas.proofs.Offsets.{row-before}
 use Rattle.answers.specs.declared.Rules.{Rules}
 use Rattle.answers.specs.declared.Rules.the-variants.{Kept}
@@ -155,7 +155,7 @@ module _ (rows constants : List ℕ) {n m w : ℕ} {numbers words words₁ : Lis
       })
 
   pub run-numbers : cleared m numbers₂ ≡ cleared m numbers
-  run-numbers = cleared-same m numbers₂ numbers (e .numbers-past)
+  run-numbers = cleared-same m numbers₂ numbers (drop-agree rank m numbers₂ numbers (e .ranked) (e .numbers-past))
 
   pub run-words : cleared (m * w + m) words₂ ≡ cleared (m * w + m) words
   run-words = cleared-same (m * w + m) words₂ words (e .words-past ∙ l .past)
