@@ -7,7 +7,7 @@ use Rattle.gf2.specs.Equation.{symDiff, lists}
 use Rattle.gf2.specs.NumberLists.{count, one}
 use Rattle.areas.specs.Stretch.{put}
 use Rattle.areas.specs.Rows.{padded}
-use Rattle.answers.specs.Sizes.{maxListed}
+use Rattle.answers.specs.Sizes.{maxSummed}
 use Rattle.answers.specs.declared.Answer.the-variants.{Solved, TooLarge, BadEntry, ShortArea}
 use Rattle.equation.specs.Increase.{rises, risesFrom}
 use Rattle.equation.specs.Sums.{sumCall, refusedSum}
@@ -32,7 +32,7 @@ unfolding sumCall rises risesFrom symDiff put padded common count one lists
 empty = refl
 
 -- a list that is too long, left or right: 1, though the other falls and `out` is short; at the limit, 3
-pub too-long : sumCall (replicate (maxListed + 1) 0) (1 ∷ 0 ∷ []) 1 2 [] ∷ sumCall (1 ∷ 0 ∷ []) (replicate (maxListed + 1) 0) 1 2 [] ∷ sumCall (1 ∷ 0 ∷ []) (replicate maxListed 0) 1 2 [] ∷ []
+pub too-long : sumCall (replicate (maxSummed + 1) 0) (1 ∷ 0 ∷ []) 1 2 [] ∷ sumCall (1 ∷ 0 ∷ []) (replicate (maxSummed + 1) 0) 1 2 [] ∷ sumCall (1 ∷ 0 ∷ []) (replicate maxSummed 0) 1 2 [] ∷ []
     ≡ refusedSum TooLarge [] ∷ refusedSum TooLarge [] ∷ refusedSum (BadEntry 0) [] ∷ []
 unfolding sumCall rises risesFrom
 too-long = refl

@@ -1,8 +1,8 @@
 -- The lazy call by computing: refusals in their order, the smallest systems, dirty areas; and isolation put to use on two builds.
 use mathlib.Core.Path.{_≡_, refl}
 use mathlib.Core.Logic.{inl, inr}
-use mathlib.Core.Bool.{Bool, true}
-use mathlib.Core.List.{List, [], _∷_, _++_}
+use mathlib.Core.Bool.{true}
+use mathlib.Core.List.{[], _∷_, _++_}
 use Prim.Native.Nat.{ℕ}
 use lib.ListN.{getD, replicate}
 use Rattle.areas.specs.Stretch.{stretch, cleared}

@@ -37,4 +37,4 @@ module _ (κs : Lfts 6) where
   -- `Post` is the contract: what it says of the arguments, the result and the parameters at exit
   pub lazy-determined : (args : Arguments) (r r′ : Built) (exit exit′ : Exit) → lazy_gaussian_elimination.Post κs args r exit → lazy_gaussian_elimination.Post κs args r′ exit′
       → (r ≡ r′) × (solution exit ≡ solution exit′) × (numbers exit ≡ numbers exit′) × (words exit ≡ words exit′)
-  lazy-determined args r r′ exit exit′ p q = built-determined (call args) (lazyCancels (args .0) (equations (args .1 .0) (args .1 .1 .0 .now) (args .1 .1 .1 .0 .now) (args .1 .1 .1 .1 .0 .now))) p q
+  lazy-determined args r r′ exit exit′ p q = built-determined (call args) (lazyCancels (args .0) (equations (args .1 .0) (args .1 .1 .0 .now) (args .1 .1 .1 .0 .now) (args .1 .1 .1 .1 .0 .now))) r r′ p q

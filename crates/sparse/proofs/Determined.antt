@@ -37,4 +37,4 @@ module _ (κs : Lfts 6) where
   -- `Post` is the contract: what it says of the arguments, the result and the parameters at exit
   pub sparse-determined : (args : Arguments) (r r′ : Built) (exit exit′ : Exit) → gaussian_elimination.Post κs args r exit → gaussian_elimination.Post κs args r′ exit′
       → (r ≡ r′) × (solution exit ≡ solution exit′) × (numbers exit ≡ numbers exit′) × (words exit ≡ words exit′)
-  sparse-determined args r r′ exit exit′ p q = built-determined (call args) (sparseCancels (equations (args .1 .0) (args .1 .1 .0 .now) (args .1 .1 .1 .0 .now) (args .1 .1 .1 .1 .0 .now))) p q
+  sparse-determined args r r′ exit exit′ p q = built-determined (call args) (sparseCancels (equations (args .1 .0) (args .1 .1 .0 .now) (args .1 .1 .1 .0 .now) (args .1 .1 .1 .1 .0 .now))) r r′ p q
