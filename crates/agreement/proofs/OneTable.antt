@@ -1,28 +1,24 @@
 -- Sparse elimination and both dense ones return one table: the smallest solution, whatever the order of the equations.
-use mathlib.Core.Path.{_≡_, refl, sym, _∙_, subst}
+use mathlib.Core.Path.{_≡_, sym, _∙_}
 use mathlib.Core.Logic.{_⊎_, inl, inr}
 use mathlib.Core.Bool.{Bool}
 use mathlib.Core.List.{List, List·Permᴰ}
 use Prim.Native.Nat.{ℕ}
 use native.Mathlib.Omega.{arith}
-use Rattle.gf2.specs.Equation.{Equation, Sorted}
+use lib.ListN.{length}
+use Rattle.gf2.specs.Equation.{Equation, Sorted, MeetsAll}
 use Rattle.gf2.specs.Span.{Cancels}
 use Rattle.gf2.specs.Canonical.{Canonical}
-use Rattle.gf2.specs.Result.{Result, unsolvable, ok}
 use Rattle.gf2.proofs.Spans.{solved-not-cancels}
-use Rattle.answers.specs.Calls.{Call, ran, solverCall}
+use Rattle.answers.specs.Calls.{Call}
 use Rattle.answers.specs.declared.Answer.the-variants.{Solved, Unsolvable}
-use Rattle.answers.specs.declared.Rules.{Rules}
-use Rattle.answers.proofs.Calls.{Admitted, call-ran}
 use Rattle.system.proofs.Soundness.{kept-sound}
 use Rattle.system.proofs.SolverCalls.{Lent, system}
-use Rattle.sparse_rules.specs.SparseCall.{sparseCall}
-use Rattle.sparse_rules.proofs.CallTheorems.{sparseOn, SparseRuns, sparseCall-canonical, sparseCall-exact}
+use Rattle.sparse_rules.proofs.CallTheorems.{sparseOn, SparseRuns, sparseCall-canonical, sparseCall-says}
 use Rattle.dense_rows.specs.Rows.{rowsOf}
 use Rattle.dense_walk.proofs.RowTheorems.{sorted-rows}
-use Rattle.dense.specs.Call.{denseCall}
-use Rattle.dense.proofs.CallTheorems.{DenseLent, denseOn, denseSystem, DenseRuns, denseCall-canonical, denseCall-exact}
-use Rattle.slow_rules.proofs.SlowTheorems.{slowOn, slowOn-same}
+use Rattle.dense.proofs.CallTheorems.{DenseLent, denseOn, denseSystem, DenseRuns, denseCall-canonical, denseCall-says}
+use Rattle.slow_rules.proofs.SlowTheorems.{slowOn, slowCall-canonical, slowCall-says}
 use Rattle.agreement.specs.Smallest.{Smallest, Solvable, SameEquations}
 use Rattle.agreement.proofs.Orders.{same-sym, reordered, canonical-is-smallest, smallest-unique, smallest-same}
 
@@ -39,20 +35,10 @@ pub data RunEnds (n : ℕ) (es : List Equation) (call : Call) : Type 0 where
   solves : call .answer ≡ Solved → Smallest n es (call .solution) → RunEnds n es call
   clashes : call .answer ≡ Unsolvable → (mask : List Bool) → Cancels mask es → RunEnds n es call
 
--- a call that comes to its run answers 0 or 6
-answered : {n kn kw : ℕ} {run : Result (List ℕ)} {solution numbers words : List ℕ} {rules : Rules} → Admitted n kn kw run solution numbers words rules
-    → (solverCall rules n kn kw run solution numbers words .answer ≡ Solved) ⊎ (solverCall rules n kn kw run solution numbers words .answer ≡ Unsolvable)
-answered {n} {kn} {kw} {run} {solution} {numbers} {words} {rules} a =
-    subst (λ (c : Call). (c .answer ≡ Solved) ⊎ (c .answer ≡ Unsolvable)) (sym (call-ran n kn kw run solution numbers words rules a)) (go run)
-  where
-    go : (r : Result (List ℕ)) → (ran kn kw r solution numbers words .answer ≡ Solved) ⊎ (ran kn kw r solution numbers words .answer ≡ Unsolvable)
-    go unsolvable = inr refl
-    go (ok x) = inl refl
-
 ends : (n : ℕ) (es : List Equation) (call : Call) → Sorted es → (call .answer ≡ Solved → Canonical n es (call .solution))
-    → (call .answer ≡ Unsolvable → (mask : List Bool) × Cancels mask es) → (call .answer ≡ Solved) ⊎ (call .answer ≡ Unsolvable) → RunEnds n es call
-ends n es call s canonical cancels (inl e) = solves e (canonical-is-smallest n es (call .solution) s (canonical e))
-ends n es call s canonical cancels (inr e) = let k = cancels e in clashes e (k .0) (k .1)
+    → ((call .answer ≡ Solved) × (length (call .solution) ≡ n) × MeetsAll (call .solution) es) ⊎ ((call .answer ≡ Unsolvable) × ((mask : List Bool) × Cancels mask es)) → RunEnds n es call
+ends n es call s canonical (inl a) = solves (a .0) (canonical-is-smallest n es (call .solution) s (canonical (a .0)))
+ends n es call s canonical (inr k) = clashes (k .0) (k .1 .0) (k .1 .1)
 
 run-sorted : {n : ℕ} {es : List Equation} {call : Call} → RunOn n es call → Sorted es
 run-sorted {n} (by-sparse l a) = kept-sound n (l .m) (l .starts) (l .vars) (l .constants) (a .kept) .sorted
@@ -60,11 +46,9 @@ run-sorted {n} (by-dense d a) = sorted-rows n (rowsOf (d .m) (d .w) (d .rows) (d
 run-sorted {n} (by-slow d a) = sorted-rows n (rowsOf (d .m) (d .w) (d .rows) (d .constants))
 
 pub run-ends : {n : ℕ} {es : List Equation} {call : Call} → RunOn n es call → RunEnds n es call
-unfolding sparseCall denseCall
-run-ends {n} (by-sparse l a) = ends n (system l) (sparseOn n l) (run-sorted (by-sparse l a)) (sparseCall-canonical n l) (sparseCall-exact n l a .0) (answered a)
-run-ends {n} (by-dense d a) = ends n (denseSystem n d) (denseOn n d) (run-sorted (by-dense d a)) (denseCall-canonical n d) (denseCall-exact n d a .0) (answered a)
-run-ends {n} (by-slow d a) =
-    rw (slowOn-same n d) (ends n (denseSystem n d) (denseOn n d) (run-sorted (by-dense d a)) (denseCall-canonical n d) (denseCall-exact n d a .0) (answered a))
+run-ends {n} (by-sparse l a) = ends n (system l) (sparseOn n l) (run-sorted (by-sparse l a)) (sparseCall-canonical n l) (sparseCall-says n l a)
+run-ends {n} (by-dense d a) = ends n (denseSystem n d) (denseOn n d) (run-sorted (by-dense d a)) (denseCall-canonical n d) (denseCall-says n d a)
+run-ends {n} (by-slow d a) = ends n (denseSystem n d) (slowOn n d) (run-sorted (by-slow d a)) (slowCall-canonical n d) (slowCall-says n d a)
 
 -- ---- the theorems
 

@@ -5,13 +5,15 @@ use Prim.Native.Nat.{ℕ, _≤_}
 use native.Mathlib.Omega.{arith}
 use borrow.Author.Tests.{ne-eqb}
 use Rattle.gf2.specs.Result.{Result, unsolvable, ok}
-use Rattle.answers.specs.Numbers.{numberOf}
+use Rattle.answers.specs.Numbers.{numberOf, placeOf}
 use Rattle.answers.specs.Calls.{Call, ran, solverCall}
 use Rattle.answers.specs.Reported.{reported}
+use Rattle.answers.specs.Told.{Tells}
 use Rattle.answers.specs.declared.Answer.{Answer}
 use Rattle.answers.specs.declared.Answer.the-variants.{Solved, WrongSolution, ShortArea, Unsolvable}
 use Rattle.answers.specs.declared.Rules.{Rules}
 use Rattle.answers.specs.declared.Rules.the-variants.{Kept}
+use Rattle.answers.proofs.Told.{Says, tells}
 use Rattle.answers.proofs.Calls.{Early, Way, broken, wrong, short, runs, way}
 
 pub reported-refused : (answer : Answer) (total : ℕ) → 1 ≤ numberOf answer → numberOf answer ≤ 5 → reported answer total ≡ 0
@@ -24,25 +26,18 @@ unfolding reported
 reported-ran kn kw unsolvable solution numbers words total = refl
 reported-ran kn kw (ok x) solution numbers words total = refl
 
--- ---- the four equations of a call, and with them the fifth
+-- ---- what a call tells, and with it what it counted
 
-module _ (total : ℕ) {answer call : Answer} {t : ℕ} {B C D : Type 0} where
+module _ (total : ℕ) {answer : Answer} {c : Call} {t : ℕ} {solution numbers words : List ℕ} where
   -- no sum was made
-  pub none-counted : {a : Answer} → (a ≡ call) × (B × (C × D)) → 1 ≤ numberOf a → numberOf a ≤ 5 → answer ≡ a → t ≡ 0
-      → (answer ≡ call) × (B × (C × (D × (t ≡ reported call total))))
-  none-counted {a} s h k e z =
-      (e ∙ s .0, (s .1 .0, (s .1 .1 .0, (s .1 .1 .1, z ∙ sym (reported-refused a total h k) ∙ ap (λ (x : Answer). reported x total) (s .0)))))
+  pub none-counted : {a : Answer} → Says c a solution numbers words → 1 ≤ numberOf a → numberOf a ≤ 5 → answer ≡ a → t ≡ 0
+      → Tells c (numberOf answer) (placeOf answer) solution numbers words × (t ≡ reported (c .answer) total)
+  none-counted {a} s h k e z = (tells (e ∙ s .0, s .1), z ∙ sym (reported-refused a total h k) ∙ ap (λ (x : Answer). reported x total) (s .0))
 
   -- the run made them all
-  pub all-counted : (kn kw : ℕ) (run : Result (List ℕ)) (solution numbers words : List ℕ) → (answer ≡ call) × (B × (C × D))
-      → answer ≡ ran kn kw run solution numbers words .answer → t ≡ total → (answer ≡ call) × (B × (C × (D × (t ≡ reported call total))))
-  all-counted kn kw run solution numbers words s e z = (
-    s .0,
-    (
-      s .1 .0,
-      (s .1 .1 .0, (s .1 .1 .1, z ∙ sym (reported-ran kn kw run solution numbers words total) ∙ ap (λ (x : Answer). reported x total) (sym e ∙ s .0))),
-    ),
-  )
+  pub all-counted : (kn kw : ℕ) (run : Result (List ℕ)) (x a w : List ℕ) → Says c answer solution numbers words
+      → answer ≡ ran kn kw run x a w .answer → t ≡ total → Tells c (numberOf answer) (placeOf answer) solution numbers words × (t ≡ reported (c .answer) total)
+  all-counted kn kw run x a w s e z = (tells s, z ∙ sym (reported-ran kn kw run x a w total) ∙ ap (λ (y : Answer). reported y total) (sym e ∙ s .0))
 
 -- ---- of the call
 

@@ -9,7 +9,7 @@ maxVariables = 16384
 abbrev pub maxEquations : ℕ
 maxEquations = 16384
 
--- t: listed variables
+-- t: listed variables of a system
 abbrev pub maxListed : ℕ
 maxListed = 65536
 
@@ -17,13 +17,24 @@ maxListed = 65536
 abbrev pub maxRowWords : ℕ
 maxRowWords = 256
 
+-- variables in one list of the sum
+abbrev pub maxSummed : ℕ
+maxSummed = 65536
+
 -- ---- rooms: numbers are 32-bit, words 64-bit
 
+-- m rows of n numbers, a scratch row and the rows' lengths; their constants
+abbrev pub rowNumbers : ℕ → ℕ → ℕ
+rowNumbers n m = m * n + n + m
+
+abbrev pub rowWords : ℕ → ℕ
+rowWords m = m
+
 abbrev pub sparseNumbers : ℕ → ℕ → ℕ
-sparseNumbers n m = m * n + n + m
+sparseNumbers n m = rowNumbers n m
 
 abbrev pub sparseWords : ℕ → ℕ
-sparseWords m = m
+sparseWords m = rowWords m
 
 abbrev pub lazyNumbers : ℕ → ℕ → ℕ → ℕ
 lazyNumbers n m t = 2 * (m * n) + t + 6 * n + 7 * m + 2

@@ -81,8 +81,10 @@ impl Built {
 pub const MAX_VARIABLES: usize = 16384;
 // The largest m: equations, rows, edges.
 pub const MAX_EQUATIONS: usize = 16384;
-// The largest t: listed variables.
+// The largest t: listed variables of a system.
 pub const MAX_LISTED: usize = 65536;
+// The largest number of variables in one list of the sum.
+pub const MAX_SUMMED: usize = 65536;
 // The largest w: words of a dense row.
 pub const MAX_ROW_WORDS: usize = 256;
 

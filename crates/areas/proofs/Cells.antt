@@ -7,7 +7,7 @@ use native.Mathlib.Omega.{arith}
 use lib.ListN.{length, take, getD, set, length-set}
 use lib.Seq.{take-all, take-suc, length-take-le}
 use Rattle.areas.specs.Stretch.{put}
-use Rattle.areas.proofs.Stretch.{set-is-put, put-put-inside, put-more, put-none, length-put, getD-put-before, getD-put-after}
+use Rattle.areas.proofs.Stretch.{set-is-put, put-put-inside, put-more, put-none, length-put, getD-put-after}
 
 -- anywhere in it
 pub set-put : (b i x : ℕ) (s l : List ℕ) → i < length s → b + length s ≤ length l → set (put b s l) (b + i) x ≡ put b (set s i x) l
@@ -50,7 +50,3 @@ pub writing-after : {b : ℕ} {s l : List ℕ} {i : ℕ} {area : List ℕ} (j : 
 writing-after {b} {s} {l} {i} j w h =
     let e : length (take i s) ≡ i = length-take-le i s (w .some) in let r = w .room in
     ap (λ (a : List ℕ). getD a j 0) (w .shown) ∙ getD-put-after b j 0 (take i s) l (omega arith) (omega arith)
-
-pub writing-before : {b : ℕ} {s l : List ℕ} {i : ℕ} {area : List ℕ} (j : ℕ) → Writing b s l i area → j < b → getD area j 0 ≡ getD l j 0
-writing-before {b} {s} {l} {i} j w h =
-    let r = w .room in ap (λ (a : List ℕ). getD a j 0) (w .shown) ∙ getD-put-before b j 0 (take i s) l h (omega arith)

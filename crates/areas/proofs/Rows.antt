@@ -47,10 +47,6 @@ padded-zeros n k vs h =
       e,
     )
 
-pub padded-padded : (n k : ℕ) (vs : List ℕ) → length vs ≤ k → k ≤ n → padded n (padded k vs) ≡ padded n vs
-unfolding padded
-padded-padded n k vs h g = padded-zeros n (k - length vs) vs (omega arith)
-
 -- a row padded to k, and then the zeros up to n
 pub padded-split : (n k : ℕ) (vs : List ℕ) → length vs ≤ k → k ≤ n → padded n vs ≡ padded k vs ++ replicate (n - k) 0
 unfolding padded

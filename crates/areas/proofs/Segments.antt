@@ -4,7 +4,7 @@ use mathlib.Core.List.{List, [], _∷_, _++_, append-assoc}
 use Prim.Native.Nat.{ℕ, zero, suc, _+_, _<_, _≤_}
 use native.Mathlib.Nat.{add-zero, zero-add, suc-add, add-assoc}
 use native.Mathlib.Omega.{arith}
-use lib.ListN.{length, getD, set, length-append, length-set, List·getD-append}
+use lib.ListN.{length, getD, set, length-append, List·getD-append}
 use lib.Seq.{getD-append-add, set-append-left}
 use Rattle.areas.specs.Stretch.{stretch, put}
 use Rattle.areas.specs.Segments.{joined, offset}
@@ -105,11 +105,3 @@ pub put-segment : (k : ℕ) (segs : List (List ℕ)) (rest s : List ℕ) → len
 put-segment k segs rest s h =
     ap (λ (o : ℕ). put o s (joined segs ++ rest)) (sym (add-zero (offset k segs)))
     ∙ put-joined k segs rest 0 s (omega arith) ∙ rw (put-all s (getD segs k []) h)
-
--- cell b of segment k is a cell of the area
-pub cell-joined : (k : ℕ) (segs : List (List ℕ)) (rest : List ℕ) (b : ℕ) → b < length (getD segs k []) → offset k segs + b < length (joined segs ++ rest)
-cell-joined k segs rest b h = let i = inside-joined k segs (suc b) h in rw length-append (omega arith)
-
-pub length-set-segment : (k : ℕ) (segs : List (List ℕ)) (s : List ℕ) → length s ≡ length (getD segs k []) → length (joined (set segs k s)) ≡ length (joined segs)
-length-set-segment k segs s h =
-    length-joined (set segs k s) ∙ rw (length-set segs k s, offset-set (length segs) k s segs h) (sym (length-joined segs))

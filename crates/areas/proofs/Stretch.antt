@@ -304,10 +304,6 @@ put-at b s a m l h k =
 
 -- ---- zeros
 
-pub length-cleared : (room : ℕ) (l : List ℕ) → room ≤ length l → length (cleared room l) ≡ length l
-unfolding cleared
-length-cleared room l h = simp (length-append, length-replicate, length-drop) (omega arith)
-
 pub cleared-is-put : (room : ℕ) (l : List ℕ) → cleared room l ≡ put 0 (replicate room 0) l
 unfolding cleared
 cleared-is-put room l = sym (whole 0 (replicate room 0) l ∙ rw (length-replicate, zero-add))
@@ -316,13 +312,6 @@ cleared-is-put room l = sym (whole 0 (replicate room 0) l ∙ rw (length-replica
 pub cleared-same : (room : ℕ) (l l′ : List ℕ) → drop room l ≡ drop room l′ → cleared room l ≡ cleared room l′
 unfolding cleared
 cleared-same room l l′ h = rw h
-
-pub cleared-put : (room b : ℕ) (s l : List ℕ) → b + length s ≤ room → b ≤ length l → cleared room (put b s l) ≡ cleared room l
-cleared-put room b s l h g = cleared-same room (put b s l) l (drop-put-after room b s l h g)
-
-pub cleared-append : (room : ℕ) (a l : List ℕ) → length a ≡ room → cleared room (a ++ l) ≡ replicate room 0 ++ l
-unfolding cleared
-cleared-append room a l h = rw (drop-at a l room h)
 
 pub drop-replicate : (b n v : ℕ) → drop b (replicate (b + n) v) ≡ replicate n v
 drop-replicate b n v =

@@ -1,11 +1,11 @@
--- The loop over the rows that looks for bits at column n or above.
-use mathlib.Core.Path.{_≡_, refl, sym, ap, ap₂, _∙_}
+-- The rows' rule: what it says of rows that keep it and of the lowest that does not, and the loop that looks for that one.
+use mathlib.Core.Path.{_≡_, refl, sym, ap, ap₂, _∙_, subst}
 use mathlib.Core.List.{List, [], _∷_}
 use mathlib.Core.Bool.{Bool, true, false}
 use Prim.Native.Nat.{ℕ, zero, suc, _+_, _-_, _*_, _<_, _≤_}
 use native.Mathlib.Numerals.{add-one}
 use native.Mathlib.Omega.{arith}
-use lib.ListN.{length}
+use lib.ListN.{length, getD}
 use Rattle.gf2.specs.Equation.{Each}
 use Rattle.areas.specs.Stretch.{stretch}
 use Rattle.areas.proofs.Offsets.{row-before}
@@ -14,6 +14,7 @@ use Rattle.answers.specs.declared.Rules.{Rules}
 use Rattle.answers.specs.declared.Rules.the-variants.{Kept, Broken}
 use Rattle.dense_rows.specs.Bits.{Row, rowFits}
 use Rattle.dense_rows.specs.Rows.{rowAt, rowsFrom, rowsOf}
+use Rattle.dense_rows.specs.Steps.{noRow}
 use Rattle.dense.specs.Call.{rowRules}
 
 -- the cases
@@ -45,6 +46,46 @@ rules-fit n i (row ∷ rows) e = go (rowFits n (row .words)) refl (λ k. rules-f
     go : (b : Bool) → rowFits n (row .words) ≡ b → (rowRules n (suc i) rows ≡ Kept → Each (λ r. rowFits n (r .words) ≡ true) rows) → Each (λ r. rowFits n (r .words) ≡ true) (row ∷ rows)
     go true f ih = (f, ih (sym (rules-kept n i row rows f) ∙ e))
     go false f ih = let q : Broken (BadEntry i) ≡ Kept = sym (rules-broken n i row rows f) ∙ e in absurd (let z : _≡_ {A = ℕ} 0 1 = cc in omega arith)
+
+-- .. and rows that fit keep them
+pub fit-rules : (n i : ℕ) (rows : List Row) → Each (λ row. rowFits n (row .words) ≡ true) rows → rowRules n i rows ≡ Kept
+unfolding rowRules
+fit-rules n i [] h = refl
+fit-rules n i (row ∷ rows) h = rules-kept n i row rows (h .0) ∙ fit-rules n (suc i) rows (h .1)
+
+-- of rows numbered from i on, row j does not fit and those before it do
+pub record Lowest (n i j : ℕ) (rows : List Row) : Type 0 where
+  pub from : i ≤ j
+  pub there : j < i + length rows
+  pub bad : rowFits n (getD rows (j - i) noRow .words) ≡ false
+  pub good : (k : ℕ) → i ≤ k → k < j → rowFits n (getD rows (k - i) noRow .words) ≡ true
+
+pub rules-lowest : (n i j : ℕ) (rows : List Row) → rowRules n i rows ≡ Broken (BadEntry j) → Lowest n i j rows
+unfolding rowRules
+rules-lowest n i j [] e = absurd (let z : _≡_ {A = ℕ} 0 1 = cc in omega arith)
+rules-lowest n i j (row ∷ rows) e = go (rowFits n (row .words)) refl e (rules-lowest n (suc i) j rows)
+  where
+    go : (b : Bool) → rowFits n (row .words) ≡ b → _≡_ {A = Rules} (elim b [ true ↦ rowRules n (suc i) rows | false ↦ Broken (BadEntry i) ]) (Broken (BadEntry j))
+        → (rowRules n (suc i) rows ≡ Broken (BadEntry j) → Lowest n (suc i) j rows) → Lowest n i j (row ∷ rows)
+    go true f q ih =
+        let l = ih q in
+        let lf = l .from in
+        let lt = l .there in
+        let s : j - i ≡ suc (j - suc i) = omega arith in
+        record { from = omega arith; there = omega arith; bad = rw s (l .bad); good = λ k h g. before k h g l }
+      where
+        before : (k : ℕ) → i ≤ k → k < j → Lowest n (suc i) j rows → rowFits n (getD (row ∷ rows) (k - i) noRow .words) ≡ true
+        before k h g l = at (k - i) refl
+          where
+            at : (d : ℕ) → k - i ≡ d → rowFits n (getD (row ∷ rows) d noRow .words) ≡ true
+            at zero z = f
+            at (suc d) z = let y : k - suc i ≡ d = omega arith in subst (λ (x : ℕ). rowFits n (getD rows x noRow .words) ≡ true) y (l .good k (omega arith) g)
+    go false f q ih =
+        let s : i ≡ j = cc in
+        let z : j - i ≡ 0 = omega arith in
+        record { from = omega arith; there = omega arith; bad = rw z f; good = λ k h g. absurd (omega arith) }
+
+-- ---- the loop
 
 pub record Checking (n m w : ℕ) (rows : List ℕ) (i : ℕ) : Type 0 where
   pub room : m * w ≤ length rows

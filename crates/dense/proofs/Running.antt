@@ -9,25 +9,23 @@ use lib.ListN.{length, getD, take, drop, replicate, length-replicate}
 use lib.Seq.{getD-take, getD-drop, length-take-le}
 use Rattle.gf2.specs.Equation.{Equation, Each, sum}
 use Rattle.gf2.specs.Result.{Result, unsolvable, ok}
-use Rattle.gf2.proofs.Each.{each-map}
 use Rattle.gf2.proofs.SymDiff.{each-symDiff}
 use Rattle.areas.specs.Stretch.{stretch, put, zeroed, cleared}
-use Rattle.areas.proofs.Stretch.{stretch-stretch, stretch-put-before, stretch-put-within, length-put, drop-put-after, getD-put, put-all, cleared-is-put, cleared-same}
+use Rattle.areas.proofs.Stretch.{stretch-stretch, stretch-put-before, stretch-put-within, length-put, drop-put-after, getD-put, put-all, cleared-is-put, cleared-same, drop-agree}
 use Rattle.areas.proofs.Offsets.{row-before}
 use Rattle.answers.specs.declared.Rules.{Rules}
 use Rattle.answers.specs.declared.Rules.the-variants.{Kept}
-use Rattle.dense_rows.specs.Bits.{Row, rowFits, columnsFrom, columns, equationOf}
+use Rattle.dense_rows.specs.Bits.{Row, bitAt, columnsFrom, columns, equationOf}
 use Rattle.dense_rows.specs.Rows.{rowAt, rowsOf, held, Became}
 use Rattle.dense_rows.specs.Steps.{noRow}
 use Rattle.dense_rows.proofs.ColumnLaws.{columnsFrom-add, columnsFrom-none, columns-below}
-use Rattle.dense_rows.proofs.HeldLaws.{rows-length, rows-are, row-of, rows-wide}
-use Rattle.dense_rows.proofs.Emptiness.{fits-no-bit}
+use Rattle.dense_rows.proofs.HeldLaws.{rows-length, rows-are, row-of, rows-wide, rows-each}
 use Rattle.dense_walk.specs.Eliminate.{Walk, walk, residue, backSub, finish, denseElimination}
 use Rattle.dense_walk.specs.Stairs.{Ready}
 use Rattle.dense_walk.specs.Areas.{Eliminated}
-use Rattle.dense.specs.Call.{rowRules, denseRules}
-use Rattle.dense.proofs.Lending.{Admitted, admitted-by}
-use Rattle.dense.proofs.RowRules.{rules-fit}
+use Rattle.dense.specs.Call.{denseRules}
+use Rattle.dense.specs.Fits.{DenseFits}
+use Rattle.dense.proofs.Lending.{dense-kept-sound}
 use Rattle.dense_walk.proofs.RowTheorems.{wide-good}
 use Rattle.dense_walk.proofs.WalkLaws.{walked, walked-stairs, walked-ahead}
 
@@ -96,20 +94,20 @@ zeroed-all n l l′ h e =
 
 -- ---- the walk and what follows
 
--- a row that fits has no column at n or above
-fitting-columns : (n w : ℕ) (words : List ℕ) → n ≤ 64 * w → rowFits n words ≡ true → Each (λ u. u < n) (columns (64 * w) words)
-fitting-columns n w words h e =
+-- a row without a bit at column n or above lists none of these
+fitting-columns : (n w : ℕ) (words : List ℕ) → n ≤ 64 * w → ((v : ℕ) → n ≤ v → bitAt v words ≡ false) → Each (λ u. u < n) (columns (64 * w) words)
+fitting-columns n w words h f =
     let s : 64 * w ≡ n + (64 * w - n) = omega arith in
     let same : columns (64 * w) words ≡ columns n words =
     ap (λ (k : ℕ). columnsFrom k 0 words) s ∙ columnsFrom-add n (64 * w - n) 0 words
-    ∙ ap (λ (l : List ℕ). columns n words ++ l) (columnsFrom-none (64 * w - n) (0 + n) words (λ v g _. fits-no-bit n words e v (omega arith)))
+    ∙ ap (λ (l : List ℕ). columns n words ++ l) (columnsFrom-none (64 * w - n) (0 + n) words (λ v g _. f v (omega arith)))
     ∙ append-nil (columns n words) in
     rw same (columns-below n words)
 
 module _ (rows constants : List ℕ) {n m w : ℕ} {numbers words words₁ : List ℕ} {rank : ℕ} {numbers₂ words₂ : List ℕ} (kept : denseRules n m w rows constants ≡ Kept)
     (l : Became m w words (rowsOf m w rows constants) words₁) (e : Eliminated n m w numbers words₁ rank numbers₂ words₂) where
-  lent : Admitted n m w rows constants
-  lent = admitted-by n m w rows constants kept
+  lent : DenseFits n m w rows constants
+  lent = dense-kept-sound n m w rows constants kept
 
   end : Walk
   end = walk n 0 (rowsOf m w rows constants)
@@ -142,7 +140,7 @@ module _ (rows constants : List ℕ) {n m w : ℕ} {numbers words words₁ : Lis
 
   -- back substitution may begin
   pub run-ready : Ready n w (take rank numbers₂) (take rank (held m w words₂))
-  unfolding end
+  unfolding end rowAt
   run-ready =
       let good = wide-good w (rowsOf m w rows constants) (rows-wide m w rows constants (lent .rows-there)) in
       let d = walked n 0 (rowsOf m w rows constants) in
@@ -152,11 +150,12 @@ module _ (rows constants : List ℕ) {n m w : ℕ} {numbers words words₁ : Lis
         wide-enough = hn;
         fits =
             walked-ahead n w hn (64 * w) (λ q. Each (λ u. u < n) (q .vars)) (λ x y p q. each-symDiff (λ u. u < n) (x .vars) (y .vars) p q) d (zero-add n) good
-            (each-map (rowsOf m w rows constants) (λ row f. fitting-columns n w (row .words) hn f) (rules-fit n 0 (rowsOf m w rows constants) (lent .rows-fit))) .0;
+            (rows-each (λ row. Each (λ u. u < n) (columns (64 * w) (row .words))) m w 0 rows constants
+            (λ j _ g. fitting-columns n w (stretch (j * w) w rows) hn (lent .no-bit j (omega arith)))) .0;
       })
 
   pub run-numbers : cleared m numbers₂ ≡ cleared m numbers
-  run-numbers = cleared-same m numbers₂ numbers (e .numbers-past)
+  run-numbers = cleared-same m numbers₂ numbers (drop-agree rank m numbers₂ numbers (e .ranked) (e .numbers-past))
 
   pub run-words : cleared (m * w + m) words₂ ≡ cleared (m * w + m) words
   run-words = cleared-same (m * w + m) words₂ words (e .words-past ∙ l .past)

@@ -20,12 +20,13 @@ use Rattle.dense_rows.proofs.StepLaws.{Wide}
 use Rattle.dense_rows.proofs.HeldLaws.{rows-wide, rows-each}
 use Rattle.dense_walk.specs.Eliminate.{denseElimination}
 use Rattle.dense.specs.Call.{denseRules, denseEquations}
-use Rattle.dense.proofs.Lending.{Admitted, admitted-by}
+use Rattle.dense.specs.Fits.{DenseFits}
+use Rattle.dense.proofs.Lending.{dense-kept-sound}
 use Rattle.dense_walk.proofs.RowTheorems.{sorted-rows, rows-canonical, rows-cancel, rows-refused}
 
 module _ (n m w : ℕ) (rows constants : List ℕ) (kept : denseRules n m w rows constants ≡ Kept) where
-  lent : Admitted n m w rows constants
-  lent = admitted-by n m w rows constants kept
+  lent : DenseFits n m w rows constants
+  lent = dense-kept-sound n m w rows constants kept
 
   wide : Each (Wide w) (rowsOf m w rows constants)
   wide = rows-wide m w rows constants (lent .rows-there)

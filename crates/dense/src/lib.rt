@@ -1,5 +1,6 @@
 // Dense Gaussian elimination over two elements.
-ghost use mathlib.Core.Path.{_≡_};
+ghost use Rattle.answers.specs.Numbers.{numberOf, placeOf};
+ghost use Rattle.answers.specs.Told.{Tells};
 ghost use Rattle.dense.specs.Call.{denseCall};
 use answers::Answer;
 use answers::Rules;
@@ -19,10 +20,7 @@ pub fn dense_gaussian_elimination(
     numbers: &mut [u32],
     words: &mut [u64],
 ) -> Answer
-    ensures { λ r. ⌜ r ≡ denseCall n m w (now (rows .entry)) (now (constants .entry)) (now (solution .entry)) (now (numbers .entry)) (now (words .entry)) .answer ⌝ }
-    ensures { λ _. ⌜ now (solution .exit) ≡ denseCall n m w (now (rows .entry)) (now (constants .entry)) (now (solution .entry)) (now (numbers .entry)) (now (words .entry)) .solution ⌝ }
-    ensures { λ _. ⌜ now (numbers .exit) ≡ denseCall n m w (now (rows .entry)) (now (constants .entry)) (now (solution .entry)) (now (numbers .entry)) (now (words .entry)) .numbers ⌝ }
-    ensures { λ _. ⌜ now (words .exit) ≡ denseCall n m w (now (rows .entry)) (now (constants .entry)) (now (solution .entry)) (now (numbers .entry)) (now (words .entry)) .words ⌝ }
+    ensures { λ r. ⌜ Tells (denseCall n m w (now (rows .entry)) (now (constants .entry)) (now (solution .entry)) (now (numbers .entry)) (now (words .entry))) (numberOf r) (placeOf r) (now (solution .exit)) (now (numbers .exit)) (now (words .exit)) ⌝ }
 {
     let checked = rules::check_rules(n, m, w, rows, constants);
     if let Rules::Broken(answer) = checked {

@@ -1,5 +1,5 @@
 -- Bits of words: the digits of a number, the XOR of words is the XOR of their bits, and a word with no bit is 0.
-use mathlib.Core.Path.{_≡_, refl, sym, ap, ap₂, _∙_}
+use mathlib.Core.Path.{_≡_, refl, sym, ap, ap₂, _∙_, subst}
 use mathlib.Core.Logic.{_≢_}
 use mathlib.Core.List.{List, [], _∷_, _++_}
 use mathlib.Core.Bool.{Bool, true, false, true≢false, false≢true}
@@ -46,6 +46,19 @@ no-digits (suc k) x h f =
     let low : x % 2 ≡ 0 = ap (λ (y : ℕ). y % 2) (sym (div-one x)) ∙ f zero (omega arith) in
     let rest : x / 2 ≡ 0 = no-digits k (x / 2) half (λ i l. ap (λ (y : ℕ). y % 2) (shr-shr x 1 i) ∙ rw (one-add i) (f (suc i) (omega arith))) in
     omega arith
+
+-- a number below 2 ^ k that is not 0 has a digit 1
+pub some-digit : (k x : ℕ) → x < 2 ^ k → x ≢ 0 → (i : ℕ) × (i < k) × (x / 2 ^ i % 2 ≡ 1)
+some-digit zero x h ne = absurd (ne (lt-one h))
+some-digit (suc k) x h ne = go (x % 2) refl (some-digit k (x / 2) (shr-lt k 1 (rw (add-one k) h)))
+  where
+    go : (d : ℕ) → x % 2 ≡ d → (x / 2 ≢ 0 → (i : ℕ) × (i < k) × (x / 2 / 2 ^ i % 2 ≡ 1)) → (i : ℕ) × (i < suc k) × (x / 2 ^ i % 2 ≡ 1)
+    go zero e ih =
+        let r = ih (λ z. ne (omega arith)) in
+        let l = r .1 in
+        (suc (r .0), omega arith, subst (λ (j : ℕ). x / 2 ^ j % 2 ≡ 1) (one-add (r .0)) (sym (ap (λ (y : ℕ). y % 2) (shr-shr x 1 (r .0))) ∙ r .2))
+    go (suc zero) e ih = (0, omega arith, ap (λ (y : ℕ). y % 2) (div-one x) ∙ e)
+    go (suc (suc d)) e ih = absurd (omega arith)
 
 -- ---- bits of a row
 

@@ -8,6 +8,7 @@ use native.Mathlib.Numerals.{add-one}
 use native.Mathlib.Omega.{arith}
 use lib.ListN.{length, getD, set, take, drop, length-set, length-drop, drop-of-length-le}
 use lib.Seq.{drop-cons, take-suc-set, drop-set-lt, append-snoc}
+use Rattle.areas.proofs.Stretch.{drop-agree}
 use Rattle.answers.specs.Sizes.{maxVariables}
 use Rattle.dense_rows.specs.Bits.{Row}
 use Rattle.dense_rows.specs.Rows.{held, Became}
@@ -53,7 +54,7 @@ pub record Walking (n m w : ℕ) (numbers₀ words₀ : List ℕ) (rank col : �
   pub numbers-room : m ≤ length numbers
   pub words-room : m * w + m ≤ length words
   pub numbers-long : length numbers ≡ length numbers₀
-  pub numbers-past : drop m numbers ≡ drop m numbers₀
+  pub numbers-past : drop rank numbers ≡ drop rank numbers₀
   pub words-long : length words ≡ length words₀
   pub words-past : drop (m * w + m) words ≡ drop (m * w + m) words₀
   pub future : walk n 0 (held m w words₀) ≡ joined (take rank numbers) (take rank (held m w words)) (walk (n - col) col (drop rank (held m w words)))
@@ -150,7 +151,7 @@ module _ {n m w : ℕ} {numbers₀ words₀ : List ℕ} {rank col : ℕ} {number
         numbers-room = simp length-set (s .numbers-room);
         words-room = rw (b .long) (s .words-room);
         numbers-long = length-set numbers rank col ∙ s .numbers-long;
-        numbers-past = drop-set-lt m numbers rank col (omega arith) ∙ s .numbers-past;
+        numbers-past = drop-set-lt (rank + 1) numbers rank col (omega arith) ∙ drop-agree rank (rank + 1) numbers numbers₀ (omega arith) (s .numbers-past);
         words-long = b .long ∙ s .words-long;
         words-past = b .past ∙ s .words-past;
         future =

@@ -13,6 +13,6 @@ pub record Eliminated (n m w : ℕ) (numbers words : List ℕ) (rank : ℕ) (num
   pub rows : take rank (held m w words′) ≡ walk n 0 (held m w words) .rows
   pub left : drop rank (held m w words′) ≡ walk n 0 (held m w words) .left
   pub numbers-long : length numbers′ ≡ length numbers
-  pub numbers-past : drop m numbers′ ≡ drop m numbers
+  pub numbers-past : drop rank numbers′ ≡ drop rank numbers
   pub words-long : length words′ ≡ length words
   pub words-past : drop (m * w + m) words′ ≡ drop (m * w + m) words

@@ -1,4 +1,5 @@
 -- The call that adds two equations: its result, and what it leaves in `out`.
+use mathlib.Core.Path.{_≡_}
 use mathlib.Core.List.{List}
 use mathlib.Core.Bool.{_&&_}
 use Prim.Native.Nat.{ℕ, _+_}
@@ -8,7 +9,8 @@ use lib.Bits.{bitXor}
 use Rattle.gf2.specs.Equation.{symDiff}
 use Rattle.areas.specs.Stretch.{put}
 use Rattle.areas.specs.Rows.{padded}
-use Rattle.answers.specs.Sizes.{maxListed}
+use Rattle.answers.specs.Sizes.{maxSummed}
+use Rattle.answers.specs.Numbers.{numberOf, placeOf}
 use Rattle.answers.specs.Calls.{pick}
 use Rattle.answers.specs.declared.Answer.{Answer}
 use Rattle.answers.specs.declared.Answer.the-variants.{Solved, TooLarge, BadEntry, ShortArea}
@@ -36,13 +38,22 @@ madeSum l r lc rc out =
       out = put 0 (padded (length l + length r) (symDiff l r)) out;
     }
 
--- 1 if a list is longer than the largest t; 3 if not increasing (place 0 left, also if both; 1 right); 5 if `out` is shorter than both together
+-- 1 if a list is longer than the longest; 3 if not increasing (place 0 left, also if both; 1 right); 5 if `out` is shorter than both together
 unfoldable pub sumCall : List ℕ → List ℕ → ℕ → ℕ → List ℕ → SumCall
 sumCall l r lc rc out =
-    pick (leb (length l) maxListed && leb (length r) maxListed)
+    pick (leb (length l) maxSummed && leb (length r) maxSummed)
     (pick (rises l)
     (pick (rises r)
     (pick (leb (length l + length r) (length out)) (madeSum l r lc rc out) (refusedSum ShortArea out))
     (refusedSum (BadEntry 1) out))
     (refusedSum (BadEntry 0) out))
     (refusedSum TooLarge out)
+
+-- what the call tells, in the numbers of the rules, and what it leaves in `out` are as its definition says
+pub record TellsSum (c : SumCall) (number place len constant cancelled : ℕ) (out : List ℕ) : Type 0 where
+  pub number-is : number ≡ numberOf (c .result .answer)
+  pub place-is : place ≡ placeOf (c .result .answer)
+  pub len-is : len ≡ c .result .len
+  pub constant-is : constant ≡ c .result .constant
+  pub cancelled-is : cancelled ≡ c .result .cancelled
+  pub out-is : out ≡ c .out

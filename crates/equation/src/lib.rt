@@ -1,6 +1,7 @@
 // Equations over the field of two elements: a strictly increasing list of variables and a constant.
 ghost use mathlib.Core.Path.{_≡_};
-ghost use Rattle.equation.specs.Sums.{sumCall, failed};
+ghost use Rattle.answers.specs.Numbers.{numberOf, placeOf};
+ghost use Rattle.equation.specs.Sums.{sumCall, failed, TellsSum};
 use answers::Answer;
 
 mod increase;
@@ -16,13 +17,12 @@ pub struct Summed {
 
 // The sum of two equations, written into `out`.
 pub fn sum(left: &[u32], right: &[u32], left_c: u64, right_c: u64, out: &mut [u32]) -> Summed
-    ensures { λ r. ⌜ r ≡ sumCall (now (left .entry)) (now (right .entry)) «left_c» «right_c» (now (out .entry)) .result ⌝ }
-    ensures { λ _. ⌜ now (out .exit) ≡ sumCall (now (left .entry)) (now (right .entry)) «left_c» «right_c» (now (out .entry)) .out ⌝ }
+    ensures { λ r. ⌜ TellsSum (sumCall (now (left .entry)) (now (right .entry)) «left_c» «right_c» (now (out .entry))) (numberOf (r .answer)) (placeOf (r .answer)) (r .len) (r .constant) (r .cancelled) (now (out .exit)) ⌝ }
 {
-    if left.len() > answers::MAX_LISTED {
+    if left.len() > answers::MAX_SUMMED {
         return refusal(Answer::TooLarge);
     }
-    if right.len() > answers::MAX_LISTED {
+    if right.len() > answers::MAX_SUMMED {
         return refusal(Answer::TooLarge);
     }
     if !increase::increasing(left) {

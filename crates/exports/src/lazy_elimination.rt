@@ -5,7 +5,7 @@ ghost use Rattle.answers.specs.Reported.{reported};
 ghost use Rattle.system.specs.System.{equations};
 ghost use Rattle.lazy.specs.Cancelled.{lazyCancels};
 ghost use Rattle.lazy_calls.specs.LazyCall.{lazyCall};
-ghost use Rattle.exports.specs.Told.{Tells};
+ghost use Rattle.answers.specs.Told.{Tells};
 
 // `lazy_calls::lazy_gaussian_elimination`; how many variables cancelled is written through `cancelled`.
 #[no_mangle]

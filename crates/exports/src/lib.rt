@@ -6,14 +6,15 @@ use answers::Answer;
 use system_check::Checked;
 ghost use mathlib.Core.Path.{_≡_};
 ghost use Rattle.answers.specs.Numbers.{numberOf, placeOf};
-ghost use Rattle.equation.specs.Sums.{sumCall};
+ghost use Rattle.answers.specs.Told.{Tells};
+ghost use Rattle.equation.specs.Sums.{sumCall, TellsSum};
 ghost use Rattle.system_check.specs.CheckCall.{checkCall};
 ghost use Rattle.answers.specs.Reported.{reported};
 ghost use Rattle.system.specs.System.{equations};
 ghost use Rattle.sparse_rules.specs.Cancelled.{sparseCancels};
 ghost use Rattle.sparse_rules.specs.SparseCall.{sparseCall};
 ghost use Rattle.dense.specs.Call.{denseCall};
-ghost use Rattle.exports.specs.Told.{Tells, TellsSum, toldNumber, toldPlace};
+ghost use Rattle.exports.specs.Told.{toldNumber, toldPlace};
 
 // The number of an answer; its place is written through `place`.
 fn tell(answer: Answer, place: &mut usize) -> u32

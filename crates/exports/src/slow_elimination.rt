@@ -1,7 +1,7 @@
 // The slow dense engine under a plain name.
 use crate::tell;
 ghost use Rattle.slow_rules.specs.SlowCall.{slowCall};
-ghost use Rattle.exports.specs.Told.{Tells};
+ghost use Rattle.answers.specs.Told.{Tells};
 
 // `slow_dense::slow_gaussian_elimination`.
 #[no_mangle]

@@ -191,15 +191,6 @@ pub sumRow-spanned : (m : List Bool) (es : List Equation) → Sorted es → InSp
 unfolding sumRow
 sumRow-spanned m es h = record { mask = m; increasing = increasing-sumVars m es h; same-vars = λ v. lists-sumVars v m es h; same-const = refl }
 
-pub spanned-sumRow : (es : List Equation) (r : Equation) → Sorted es → (p : InSpan es r) → r ≡ sumRow (p .mask) es
-unfolding sumRow
-spanned-sumRow es r h p = λ i. record { vars = vars-path i; c = p .same-const i }
-  where
-    vars-path : r .vars ≡ sumVars (p .mask) es
-    vars-path =
-        same-lists (r .vars) (sumVars (p .mask) es) (p .increasing) (increasing-sumVars (p .mask) es h)
-        (λ w. p .same-vars w ∙ sym (lists-sumVars w (p .mask) es h))
-
 -- a contradiction by computing the sum
 pub sum-cancels : (m : List Bool) (es : List Equation) → Sorted es → sumVars m es ≡ [] → constOf m es ≢ 0 → Cancels m es
 unfolding sumRow sumRow-spanned

@@ -1,11 +1,11 @@
 -- The XOR of the values of a row's variables: step by step, and with one value written.
 use mathlib.Core.Path.{_≡_, refl, sym, ap, ap₂, _∙_}
 use mathlib.Core.List.{List, [], _∷_, _++_}
-use Prim.Native.Nat.{ℕ, zero, suc, _<_, _≤_}
+use Prim.Native.Nat.{ℕ, zero, _<_, _≤_}
 use native.Mathlib.Omega.{arith}
-use lib.ListN.{getD, length, set, take}
-use lib.Seq.{getD-set-same, getD-set-other, take-suc}
-use lib.Bits.{bitXor, xor-zero-r}
+use lib.ListN.{getD, length, set}
+use lib.Seq.{getD-set-same, getD-set-other}
+use lib.Bits.{bitXor}
 use Rattle.gf2.specs.Equation.{Equation, Each, Above, evalVars, MeetsAll}
 use Rattle.gf2.proofs.XorLaws.{xor-laws, xor-assoc}
 
@@ -13,12 +13,6 @@ pub evalVars-append : (a b x : List ℕ) → evalVars (a ++ b) x ≡ bitXor (eva
 unfolding evalVars
 evalVars-append [] b x = refl
 evalVars-append (v ∷ vs) b x = ap (bitXor (getD x v 0)) (evalVars-append vs b x) ∙ sym (xor-assoc (getD x v 0) (evalVars vs x) (evalVars b x))
-
--- one more variable, from the front
-pub evalVars-take-suc : (vs x : List ℕ) (i : ℕ) → i < length vs → evalVars (take (suc i) vs) x ≡ bitXor (evalVars (take i vs) x) (getD x (getD vs i 0) 0)
-evalVars-take-suc vs x i h =
-    ap (λ l. evalVars l x) (take-suc vs i 0 h) ∙ evalVars-append (take i vs) (getD vs i 0 ∷ []) x
-    ∙ ap (bitXor (evalVars (take i vs) x)) (unfold evalVars in xor-zero-r (getD x (getD vs i 0) 0))
 
 -- ---- a value written into the vector
 

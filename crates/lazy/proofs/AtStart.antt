@@ -197,10 +197,6 @@ module _ (n : ℕ) (sys : List Equation) (lent : Lent n sys) where
       let d = weight-at v (b .1) in
       inl (omega arith))
 
-  pub start-all : (v : ℕ) → v < n → lists v (start n sys .variables) ≡ true
-  unfolding start weights
-  start-all v b = in-heaviest weights n (length sys) v (rw (weight-at v b) (light v)) b
-
   pub sys-sorted : Sorted sys
   sys-sorted = each-from (λ q. Increasing (q .vars)) sys blank (λ e h. lent .rising e)
 

@@ -7,7 +7,6 @@ use Prim.Native.Nat.{ℕ, zero, suc, _+_, _≤_, _<_}
 use native.Mathlib.Omega.{arith}
 use native.Mathlib.Decide.{decLt, ℕ-discrete}
 use lib.ListN.{length, getD, length-map, List·getD-eq-default}
-use lib.Seq.{ext-getD}
 use Rattle.gf2.specs.ByNumber.{rowOf, listsAt, MeetsRows}
 use Rattle.gf2.specs.Equation.{Equation, lists, Meets}
 use Rattle.gf2.specs.NumberLists.{upFrom, keep, one, count}
@@ -25,13 +24,6 @@ use Rattle.lazy.proofs.Pivots.{lists-listing, listsAt-below}
 use Rattle.lazy.proofs.Shares.{ApartAt, Shares}
 
 -- ---- weights and lists
-
-pub listed-weight : (sys : List Equation) (v e : ℕ) → listsAt sys v e ≡ true → 0 < length (listing sys v)
-listed-weight sys v e h = go (length (listing sys v)) refl
-  where
-    go : (k : ℕ) → length (listing sys v) ≡ k → 0 < k
-    go zero p = absurd (true≢false (sym h ∙ sym (lists-listing sys v e) ∙ length-zero (listing sys v) e p))
-    go (suc k) p = omega arith
 
 some-listed : (l : List ℕ) → 0 < length l → (v : ℕ) × (lists v l ≡ true)
 some-listed [] h = absurd (omega arith)
@@ -318,9 +310,3 @@ shares P a b h =
       back = half P b a (sym h);
       weights = λ v pv. listing-is a v ∙ sym (count-ours P v pv a) ∙ ap (listing-count v) h ∙ count-ours P v pv b ∙ sym (listing-is b v);
     }
-
--- the description determines the answer
-pub described-unique : (n : ℕ) (sys : List Equation) → Lent n sys → (x y : List ℕ) → Described n sys x → Described n sys y → x ≡ y
-described-unique n sys lent x y a b =
-    ext-getD 0 x y (a .size ∙ sym (b .size)) (λ v h.
-    ours-same (λ u. true) sys sys (shares (λ u. true) sys sys refl) (λ u v e p q r. refl) (λ u v e p q r. refl) n n lent lent x y a b v refl)

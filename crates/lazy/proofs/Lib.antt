@@ -11,8 +11,6 @@ pub mod Filling
 pub mod Ending
 pub mod Run
 pub mod Room
-pub mod Tables
-pub mod Ranks
 pub mod Turns
 pub mod Cancelled
 pub mod NeverEmpty

@@ -19,9 +19,6 @@ module _ (n : ℕ) (sys : List Equation) (lent : Lent n sys) (s : State) (i : In
   pub equations-room : length (s .equations) ≤ length sys
   equations-room = distinct-room (length sys) (s .equations) (i .in-stack .distinct) (i .in-stack .below)
 
-  pub variables-room : length (s .variables) ≤ n
-  variables-room = distinct-room n (s .variables) (i .in-variables .distinct) (i .in-variables .below)
-
   pub row-room : (e : ℕ) → length (rowOf (s .rows) e .vars) ≤ n
   row-room e =
       distinct-room n (rowOf (s .rows) e .vars) (increasing-distinct (rowOf (s .rows) e .vars) (i .in-rows .rising e))

@@ -11,11 +11,7 @@ use Rattle.areas.specs.Stretch.{put, cleared}
 use Rattle.areas.proofs.Stretch.{put-all}
 use Rattle.answers.specs.Calls.{ran}
 use Rattle.answers.specs.declared.Answer.{Answer}
-use Rattle.answers.specs.declared.Answer.the-variants as answer
-use Rattle.lazy_setup.specs.declared.Stand.{Stand}
-use Rattle.lazy_pops.specs.declared.Step.{Step}
-use Rattle.lazy_pops.specs.declared.Step.the-variants as step
-use Rattle.lazy_units.specs.Units.{Over}
+use Rattle.lazy_units.specs.Running.{Answers}
 
 -- the part that was lent is zero, and what lies past it is as it was
 pub room-zero : (r kn : ℕ) (b l : List ℕ) → r ≡ kn → kn ≤ length l → b ≡ replicate (length (take r l)) 0 → b ++ drop r l ≡ cleared kn l
@@ -32,23 +28,6 @@ module _ (kn kw : ℕ) (solution solution′ numbers words numbers′ words′ :
       (a ≡ ran kn kw x solution numbers words .answer)
       × ((solution′ ≡ ran kn kw x solution numbers words .solution) × ((numbers′ ≡ ran kn kw x solution numbers words .numbers) × (words′ ≡ ran kn kw x solution numbers words .words)))
 
-  solved : (x : Result (List ℕ)) → Over x step.Solved solution solution′ → Leaves answer.Solved x
-  solved unsolvable o = absurd o
-  solved (ok y) o = (refl, (o, (zn, zw)))
-
-  refused : (x : Result (List ℕ)) → Over x step.Unsolvable solution solution′ → Leaves answer.Unsolvable x
-  refused unsolvable o = (refl, (o, (zn, zw)))
-  refused (ok y) o = absurd o
-
-  more : (x : Result (List ℕ)) (stand : Stand) → Over x (step.More stand) solution solution′ → Leaves answer.Unsolvable x
-  more unsolvable stand o = absurd o
-  more (ok y) stand o = absurd o
-
-  pub end-solved : (x : Result (List ℕ)) (r : Step) → Over x r solution solution′ → r ≡ step.Solved → Leaves answer.Solved x
-  end-solved x r o e = solved x (subst (λ (r : Step). Over x r solution solution′) e o)
-
-  pub end-refused : (x : Result (List ℕ)) (r : Step) → Over x r solution solution′ → r ≡ step.Unsolvable → Leaves answer.Unsolvable x
-  end-refused x r o e = refused x (subst (λ (r : Step). Over x r solution solution′) e o)
-
-  pub end-more : (x : Result (List ℕ)) (r : Step) (stand : Stand) → Over x r solution solution′ → r ≡ step.More stand → Leaves answer.Unsolvable x
-  end-more x r stand o e = more x stand (subst (λ (r : Step). Over x r solution solution′) e o)
+  pub ends : (x : Result (List ℕ)) (a : Answer) → Answers x a solution solution′ → Leaves a x
+  ends unsolvable a o = (o .0, (o .1, (zn, zw)))
+  ends (ok y) a o = (o .0, (o .1, (zn, zw)))

@@ -3,3 +3,5 @@ pub mod Opening
 pub mod Closing
 pub mod Ladder
 pub mod CallTheorems
+pub mod Determined
+pub mod CallExamples

@@ -6,6 +6,7 @@ use native.Mathlib.Omega.{arith}
 use lib.ListN.{length, drop, drop-of-length-le}
 use Rattle.gf2.specs.Equation.{Equation}
 use Rattle.answers.specs.Sizes.{lazyNumbers, lazyWords}
+use Rattle.answers.specs.declared.Answer.{Answer}
 use Rattle.system.specs.Fits.{Fits}
 use Rattle.system.specs.System.{equations}
 use Rattle.lazy.specs.Lazy.{State, more, after, answerOf, start, enough, wholeRun, lazyElimination}
@@ -18,11 +19,10 @@ use Rattle.lazy_setup.specs.Area.{listsFrom, numbersOf, wordsOf}
 use Rattle.lazy_setup.specs.Layout.{layoutOf, standOf, Sized}
 use Rattle.lazy_setup.proofs.Holding.{lists-long}
 use Rattle.lazy_setup.proofs.Setting.{start-sized}
-use Rattle.lazy_pops.specs.declared.Step.{Step}
 use Rattle.lazy_pops.specs.Laid.{Laid, listed}
-use Rattle.lazy_units.specs.Units.{Stands, left, Over}
+use Rattle.lazy_units.specs.Units.{Stands, left}
 use Rattle.lazy_units.specs.Ending.{UnitAt}
-use Rattle.lazy_units.specs.Running.{Ran, RanCount}
+use Rattle.lazy_units.specs.Running.{Answers, Ran, RanCount}
 use Rattle.lazy_units.proofs.UnitCases.{inv-fit}
 
 module _ {n m : ℕ} {starts vars constants : List ℕ} (f : Fits n m starts vars constants) where
@@ -59,8 +59,8 @@ module _ {n m : ℕ} {starts vars constants : List ℕ} (f : Fits n m starts var
   unfolding start
   start-left = let v = start-variables n sys in let z : left (start n sys) ≤ length sys + n + (length sys + 0) = omega arith in omega arith
 
-  pub built : {stand : Stand} {layout : Layout} {numbers words solution : List ℕ} (solution′ numbers′ : List ℕ) (r : Step) → UnitAt n m layout sys (start n sys) stand numbers words solution
-      → Ran n m layout stand numbers words solution solution′ numbers′ r → Over (lazyElimination n sys) r solution solution′
+  pub built : {stand : Stand} {layout : Layout} {numbers words solution : List ℕ} (solution′ numbers′ : List ℕ) (r : Answer) → UnitAt n m layout sys (start n sys) stand numbers words solution
+      → Ran n m layout stand numbers words solution solution′ numbers′ r → Answers (lazyElimination n sys) r solution solution′
   unfolding lazyElimination wholeRun
   built solution′ numbers′ r a q = q sys (start n sys) a .1 (enough n sys) start-left
 

@@ -7,7 +7,9 @@ mod sweeping;
 mod whole;
 
 ghost use mathlib.Core.Path.{_≡_};
+ghost use Rattle.answers.specs.Numbers.{numberOf, placeOf};
 ghost use Rattle.answers.specs.Reported.{reported};
+ghost use Rattle.answers.specs.Told.{Tells};
 ghost use Rattle.system.specs.System.{equations};
 ghost use Rattle.lazy.specs.Cancelled.{lazyCancels};
 ghost use Rattle.lazy_calls.specs.LazyCall.{lazyCall};
@@ -23,10 +25,7 @@ pub fn lazy_gaussian_elimination(
     numbers: &mut [u32],
     words: &mut [u64],
 ) -> Built
-    ensures { λ r. ⌜ r .answer ≡ lazyCall n m (now (starts .entry)) (now (vars .entry)) (now (constants .entry)) (now (solution .entry)) (now (numbers .entry)) (now (words .entry)) .answer ⌝ }
-    ensures { λ _. ⌜ now (solution .exit) ≡ lazyCall n m (now (starts .entry)) (now (vars .entry)) (now (constants .entry)) (now (solution .entry)) (now (numbers .entry)) (now (words .entry)) .solution ⌝ }
-    ensures { λ _. ⌜ now (numbers .exit) ≡ lazyCall n m (now (starts .entry)) (now (vars .entry)) (now (constants .entry)) (now (solution .entry)) (now (numbers .entry)) (now (words .entry)) .numbers ⌝ }
-    ensures { λ _. ⌜ now (words .exit) ≡ lazyCall n m (now (starts .entry)) (now (vars .entry)) (now (constants .entry)) (now (solution .entry)) (now (numbers .entry)) (now (words .entry)) .words ⌝ }
+    ensures { λ r. ⌜ Tells (lazyCall n m (now (starts .entry)) (now (vars .entry)) (now (constants .entry)) (now (solution .entry)) (now (numbers .entry)) (now (words .entry))) (numberOf (r .answer)) (placeOf (r .answer)) (now (solution .exit)) (now (numbers .exit)) (now (words .exit)) ⌝ }
     ensures { λ r. ⌜ r .cancelled ≡ reported (lazyCall n m (now (starts .entry)) (now (vars .entry)) (now (constants .entry)) (now (solution .entry)) (now (numbers .entry)) (now (words .entry)) .answer) (lazyCancels n (equations m (now (starts .entry)) (now (vars .entry)) (now (constants .entry)))) ⌝ }
 {
     match system::rules(n, m, starts, vars, constants) {

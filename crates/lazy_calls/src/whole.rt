@@ -1,9 +1,6 @@
 // The whole run on lent areas: set-up, units, zeros.
 use crate::sweeping::sweep;
-use answers::Answer;
 use answers::Built;
-use lazy_pops::CountedStep;
-use lazy_pops::Step;
 use lazy_setup::Layout;
 use lazy_setup::setup;
 use lazy_units::units::run_units;
@@ -15,7 +12,7 @@ ghost use Rattle.system.specs.Fits.{Fits};
 ghost use Rattle.system.specs.System.{equations};
 ghost use Rattle.lazy.specs.Cancelled.{lazyCancels};
 ghost use Rattle.lazy_calls.specs.LazyCall.{lazyRan, lazyAnswer};
-ghost use Rattle.lazy_units.specs.Units.{Over};
+ghost use Rattle.lazy_units.specs.Running.{Answers};
 
 // The build in areas that are just the room: they are zero afterwards.
 fn build(
@@ -27,9 +24,9 @@ fn build(
     solution: &mut [u64],
     numbers: &mut [u32],
     words: &mut [u64],
-) -> CountedStep
+) -> Built
     requires { ⌜ Fits n m (now starts) (now vars) (now constants) × (length (now solution) ≡ n) × (length (now numbers) ≡ lazyNumbers n m (length (now vars))) × (length (now words) ≡ lazyWords m) ⌝ }
-    ensures { λ r. ⌜ Over (lazyAnswer n m (now (starts .entry)) (now (vars .entry)) (now (constants .entry))) (r .step) (now (solution .entry)) (now (solution .exit)) ⌝ }
+    ensures { λ r. ⌜ Answers (lazyAnswer n m (now (starts .entry)) (now (vars .entry)) (now (constants .entry))) (r .answer) (now (solution .entry)) (now (solution .exit)) ⌝ }
     ensures { λ _. ⌜ now (numbers .exit) ≡ replicate (length (now (numbers .entry))) 0 ⌝ }
     ensures { λ _. ⌜ now (words .exit) ≡ replicate (length (now (words .entry))) 0 ⌝ }
     ensures { λ r. ⌜ r .cancelled ≡ lazyCancels n (equations m (now (starts .entry)) (now (vars .entry)) (now (constants .entry))) ⌝ }
@@ -62,7 +59,7 @@ pub fn run(
 {
     let kn = answers::lazy_numbers(n, m, vars.len());
     let kw = answers::lazy_words(m);
-    let built = build(
+    build(
         n,
         m,
         starts,
@@ -71,21 +68,5 @@ pub fn run(
         solution,
         &mut numbers[..kn],
         &mut words[..kw],
-    );
-    let cancelled = built.cancelled;
-    let end = built.step;
-    match end {
-        Step::Solved => Built {
-            answer: Answer::Solved,
-            cancelled,
-        },
-        Step::Unsolvable => Built {
-            answer: Answer::Unsolvable,
-            cancelled,
-        },
-        Step::More(_) => Built {
-            answer: Answer::Unsolvable,
-            cancelled,
-        },
-    }
+    )
 }

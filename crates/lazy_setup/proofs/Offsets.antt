@@ -45,10 +45,6 @@ module _ (n m t : ℕ) (segs : List (List ℕ)) (h : Shaped n m t segs) where
   pub fourteen : length segs ≡ 14
   fourteen = sym (length-map segs (λ s. length s)) ∙ ap (λ (l : List ℕ). length l) h
 
-  pub at-rows : offset 0 segs ≡ 0
-  unfolding offset
-  at-rows = refl
-
   pub at-lengths : offset 1 segs ≡ layoutOf n m t .lengths
   unfolding before layoutOf
   at-lengths = at 1 ∙ (let z : m * n + 0 ≡ m * n = omega arith in z)

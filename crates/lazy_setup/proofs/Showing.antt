@@ -15,7 +15,7 @@ use Rattle.areas.proofs.Rows.{length-padded}
 use Rattle.areas.proofs.Segments.{stretch-segment, put-segment, put-joined, inside-joined}
 use Rattle.lazy_setup.specs.Layout.{sizes, Shaped}
 use Rattle.lazy_setup.specs.Tables.{total}
-use Rattle.lazy_setup.proofs.Offsets.{long, length-shaped}
+use Rattle.lazy_setup.proofs.Offsets.{long}
 
 pub record Shows (n m t : ℕ) (rest : List ℕ) (segs : List (List ℕ)) (area : List ℕ) : Type 0 where
   pub shape : Shaped n m t segs
@@ -65,9 +65,6 @@ module _ {n m t : ℕ} {rest : List ℕ} {segs : List (List ℕ)} {area : List �
       let y = long n m t segs (w .shape) k in
       let i = inside-joined k segs (getD (sizes n m t) k 0) (omega arith) in
       let a = ap (λ (l : List ℕ). length l) (w .shown) ∙ length-append (joined segs) rest in omega arith
-
-  pub shows-long : length area ≡ lazyNumbers n m t + length rest
-  shows-long = ap (λ (l : List ℕ). length l) (w .shown) ∙ length-append (joined segs) rest ∙ ap (λ (k : ℕ). k + length rest) (length-shaped n m t segs (w .shape))
 
 -- ---- an area whose room is zeros
 

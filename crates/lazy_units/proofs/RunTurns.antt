@@ -10,6 +10,8 @@ use Rattle.gf2.specs.Result.{Result, unsolvable, ok}
 use Rattle.lazy.specs.Lazy.{State, Build, more, ended, unit, after, answerOf}
 use Rattle.lazy.proofs.Turns.{after-end}
 use Rattle.answers.specs.Sizes.{maxVariables, maxEquations}
+use Rattle.answers.specs.declared.Answer.{Answer}
+use Rattle.answers.specs.declared.Answer.the-variants as answer
 use Rattle.lazy.specs.Cancelled.{unitCancels, afterCancels}
 use Rattle.gf2.proofs.Tally.{Tally, tally-begin, tally-turn, tally-last}
 use Rattle.lazy_setup.specs.declared.Layout.{Layout}
@@ -20,7 +22,7 @@ use Rattle.lazy_pops.specs.declared.Step.the-variants as step
 use Rattle.lazy_units.specs.Tidy.{Tidy}
 use Rattle.lazy_units.specs.Units.{Stands, left, Gone, Over}
 use Rattle.lazy_units.specs.Ending.{UnitAt}
-use Rattle.lazy_units.specs.Running.{leftOf}
+use Rattle.lazy_units.specs.Running.{leftOf, Answers}
 use Rattle.lazy_units.proofs.UnitCases.{unit-room}
 
 -- from s′, k′ units lead where k units lead from s
@@ -170,13 +172,25 @@ module _ {n m : ℕ} {layout : Layout} {sys : List Equation} {s : State} {stand 
       let h = subst (λ (x : Step). Gone n m layout sys (i .s′) (unit n sys (i .s′)) x solution solution″ numbers″ words″) q g in
       (tidy (unit n sys (i .s′)) e solution″ numbers″ words″ h other, over (unit n sys (i .s′)) refl e solution″ numbers″ words″ h other)
 
+  told-solved : (x : Result (List ℕ)) (solution″ : List ℕ) → Over x step.Solved solution₀ solution″ → Answers x answer.Solved solution₀ solution″
+  told-solved unsolvable solution″ o = absurd o
+  told-solved (ok x) solution″ o = (refl, o)
+
+  told-refused : (x : Result (List ℕ)) (solution″ : List ℕ) → Over x step.Unsolvable solution₀ solution″ → Answers x answer.Unsolvable solution₀ solution″
+  told-refused unsolvable solution″ o = (refl, o)
+  told-refused (ok x) solution″ o = absurd o
+
   pub run-solved : {r : Step} (solution″ numbers″ words″ : List ℕ) → Gone n m layout sys (i .s′) (unit n sys (i .s′)) r solution solution″ numbers″ words″ → r ≡ step.Solved
-      → Tidy n m layout numbers″ × ((k : ℕ) → left s < k → Over (answerOf (after k n sys (more s))) step.Solved solution₀ solution″)
-  run-solved solution″ numbers″ words″ g e = ended-so step.Solved solution″ numbers″ words″ g e (λ x q. let z : _≡_ {A = ℕ} 0 1 = cc in omega arith)
+      → Tidy n m layout numbers″ × ((k : ℕ) → left s < k → Answers (answerOf (after k n sys (more s))) answer.Solved solution₀ solution″)
+  run-solved solution″ numbers″ words″ g e =
+      let o = ended-so step.Solved solution″ numbers″ words″ g e (λ x q. let z : _≡_ {A = ℕ} 0 1 = cc in omega arith) in
+      (o .0, λ k h. told-solved (answerOf (after k n sys (more s))) solution″ (o .1 k h))
 
   pub run-refused : {r : Step} (solution″ numbers″ words″ : List ℕ) → Gone n m layout sys (i .s′) (unit n sys (i .s′)) r solution solution″ numbers″ words″ → r ≡ step.Unsolvable
-      → Tidy n m layout numbers″ × ((k : ℕ) → left s < k → Over (answerOf (after k n sys (more s))) step.Unsolvable solution₀ solution″)
-  run-refused solution″ numbers″ words″ g e = ended-so step.Unsolvable solution″ numbers″ words″ g e (λ x q. let z : _≡_ {A = ℕ} 0 1 = cc in omega arith)
+      → Tidy n m layout numbers″ × ((k : ℕ) → left s < k → Answers (answerOf (after k n sys (more s))) answer.Unsolvable solution₀ solution″)
+  run-refused solution″ numbers″ words″ g e =
+      let o = ended-so step.Unsolvable solution″ numbers″ words″ g e (λ x q. let z : _≡_ {A = ℕ} 0 1 = cc in omega arith) in
+      (o .0, λ k h. told-refused (answerOf (after k n sys (more s))) solution″ (o .1 k h))
 
   -- the last unit: what was counted is all
   run-counted : {r : Step} {t : ℕ} (e : Step) (solution″ numbers″ words″ : List ℕ) → Gone n m layout sys (i .s′) (unit n sys (i .s′)) r solution solution″ numbers″ words″ → r ≡ e

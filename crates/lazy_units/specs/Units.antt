@@ -33,12 +33,6 @@ pub record Stands (n m : ℕ) (layout : Layout) (sys : List Equation) (s : State
   pub shows : Shows n m layout sys s stand numbers
   pub words-are : words ≡ wordsOf sys s
 
--- for some system and state
-pub record Ready (n m : ℕ) (layout : Layout) (stand : Stand) (numbers words : List ℕ) : Type 0 where
-  pub sys : List Equation
-  pub s : State
-  pub at : Stands n m layout sys s stand numbers words
-
 -- how many units are left at the most, but for the last one
 abbrev pub left : State → ℕ
 left s = s .remaining + length (s .variables) + (s .remaining + (length (s .dense) - s .denseDone))

@@ -1,6 +1,8 @@
 // One unit, and the run as a loop of units.
 use crate::clearing::clear_row;
 use crate::filling::finish;
+use answers::Answer;
+use answers::Built;
 use lazy_pops::CountedStep;
 use lazy_pops::Step;
 use lazy_setup::Layout;
@@ -49,9 +51,9 @@ pub fn run_units(
     m: usize,
     stand: Stand,
     solution: &mut [u64],
-) -> CountedStep
+) -> Built
     requires { ⌜ UnitReady n m layout stand (now numbers) (now words) (now solution) × (m ≤ maxEquations) ⌝ }
-    ensures { λ r. ⌜ Ran n m layout stand (now (numbers .entry)) (now (words .entry)) (now (solution .entry)) (now (solution .exit)) (now (numbers .exit)) (r .step) ⌝ }
+    ensures { λ r. ⌜ Ran n m layout stand (now (numbers .entry)) (now (words .entry)) (now (solution .entry)) (now (solution .exit)) (now (numbers .exit)) (r .answer) ⌝ }
     ensures { λ r. ⌜ RanCount n m layout stand (now (numbers .entry)) (now (words .entry)) (now (solution .entry)) (r .cancelled) ⌝ }
 {
     let mut at = stand;
@@ -63,14 +65,14 @@ pub fn run_units(
         match step {
             Step::More(next) => at = next,
             Step::Solved => {
-                return CountedStep {
-                    step: Step::Solved,
+                return Built {
+                    answer: Answer::Solved,
                     cancelled,
                 };
             }
             Step::Unsolvable => {
-                return CountedStep {
-                    step: Step::Unsolvable,
+                return Built {
+                    answer: Answer::Unsolvable,
                     cancelled,
                 };
             }

@@ -2,6 +2,7 @@
 use mathlib.Core.Path.{_≡_, refl, sym, ap, subst, _∙_}
 use mathlib.Core.Bool.{Bool, true, false, _&&_}
 use mathlib.Core.List.{List, [], _∷_, _++_, append-assoc}
+use mathlib.Core.Logic.{_↔_}
 use mathlib.Core.Option.{Option, none, some}
 use Prim.Native.Nat.{ℕ, zero, suc, _+_, _-_, _*_, _%_, _≤_, _<_}
 use native.Mathlib.Omega.{arith}
@@ -15,7 +16,8 @@ use Rattle.gf2.proofs.Both.{both}
 use Rattle.areas.specs.Stretch.{stretch}
 use Rattle.areas.proofs.Stretch.{stretch-at, stretch-split, stretch-none, stretch-whole, length-stretch}
 use Rattle.link_form.specs.Bytes.{little, power, field, bytesOf}
-use Rattle.link_form.specs.File.{Link, maxBytes, headerBytes, width, mark, kindOf, sparseKind, peelKind, headerKept, described, readRows, readFile, rowsOut, writeFile}
+use Rattle.link_form.specs.File.{Link, maxBytes, headerBytes, width, mark, kindOf, sparseKind, peelKind, headerKept, described, readRows, readFile, formOf, rowsOut, writeFile}
+use Rattle.link_form.specs.declared.scan.Form.the-variants.{Malformed}
 use Rattle.link_form.specs.Fitting.{AllBytes, RowFits, LinkFits}
 use Rattle.link_form.proofs.Numbers.{length-bytesOf, little-bytesOf, bytesOf-little, little-small, bytesOf-taken, taken-small}
 use Rattle.link_form.proofs.Scanning.{length-rows}
@@ -184,3 +186,14 @@ link-fits bytes f a e =
 -- no two files describe one link
 pub one-file : (a b : List ℕ) (f : Link) → AllBytes a → AllBytes b → readFile a ≡ some f → readFile b ≡ some f → a ≡ b
 one-file a b f p q d e = sym (link-read a f p d) ∙ link-read b f q e
+
+-- 9 exactly where no link that fits is written as these bytes
+pub nine-exact : (bytes : List ℕ) → AllBytes bytes → (formOf (readFile bytes) ≡ Malformed) ↔ ((f : Link) → LinkFits f → writeFile f ≡ bytes → ⊥)
+nine-exact bytes all = (there, back (readFile bytes) refl)
+  where
+    there : formOf (readFile bytes) ≡ Malformed → (f : Link) → LinkFits f → writeFile f ≡ bytes → ⊥
+    there e f l q = let s : formOf (some f) ≡ Malformed = ap formOf (sym (link-written f l) ∙ ap readFile q) ∙ e in let z : _≡_ {A = ℕ} 0 1 = cc in omega arith
+
+    back : (o : Option Link) → readFile bytes ≡ o → ((f : Link) → LinkFits f → writeFile f ≡ bytes → ⊥) → formOf o ≡ Malformed
+    back none e h = refl
+    back (some f) e h = absurd (h f (link-fits bytes f all e) (link-read bytes f all e))

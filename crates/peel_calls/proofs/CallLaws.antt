@@ -16,6 +16,7 @@ use Rattle.peel_gates.specs.Rooms.{numbersRoom, bytesRoom}
 use Rattle.peel_gates.specs.Gates.{gateOf}
 use Rattle.peel_parts.specs.Parts.{Admitted}
 use Rattle.peel_runs.specs.Runs.{Leaves, runCall}
+use Rattle.peel_runs.proofs.RunLaws.{leaves}
 use Rattle.peel_calls.specs.Judging.{Judged, peelingCall}
 
 both : (a b : Bool) → (a && b) ≡ true → (a ≡ true) × (b ≡ true)
@@ -71,10 +72,10 @@ module _ (high : Bool) (n : ℕ) (T : List Edge) (cells numbers bytes : List ℕ
     where
       go : (p : Bool) → sizes ≡ p → (q : Bool) → bad ≡ q → (t : Bool) → eqb (length cells) n ≡ t → (u : Bool) → room ≡ u → gate .opened ≡ false → r ≡ gate .refusal
           → Leaves (peelingCall high n T cells numbers bytes) r cells numbers bytes
-      go false hp q hq t ht u hu o k = rw hp (record { answer = ap (λ (y : Peeling). y .answer) (rw hp at k); report = ap (λ (y : Peeling). y .report) (rw hp at k); solution-is = refl; numbers-are = refl; bytes-are = refl })
-      go true hp true hq t ht u hu o k = rw (hp, hq) (record { answer = ap (λ (y : Peeling). y .answer) (rw (hp, hq) at k); report = ap (λ (y : Peeling). y .report) (rw (hp, hq) at k); solution-is = refl; numbers-are = refl; bytes-are = refl })
-      go true hp false hq false ht u hu o k = rw (hp, hq, ht) (record { answer = ap (λ (y : Peeling). y .answer) (rw (hp, hq, ht) at k); report = ap (λ (y : Peeling). y .report) (rw (hp, hq, ht) at k); solution-is = refl; numbers-are = refl; bytes-are = refl })
-      go true hp false hq true ht false hu o k = rw (hp, hq, ht, hu) (record { answer = ap (λ (y : Peeling). y .answer) (rw (hp, hq, ht, hu) at k); report = ap (λ (y : Peeling). y .report) (rw (hp, hq, ht, hu) at k); solution-is = refl; numbers-are = refl; bytes-are = refl })
+      go false hp q hq t ht u hu o k = rw hp (leaves (ap (λ (y : Peeling). y .answer) (rw hp at k)) (ap (λ (y : Peeling). y .report) (rw hp at k)) refl refl refl)
+      go true hp true hq t ht u hu o k = rw (hp, hq) (leaves (ap (λ (y : Peeling). y .answer) (rw (hp, hq) at k)) (ap (λ (y : Peeling). y .report) (rw (hp, hq) at k)) refl refl refl)
+      go true hp false hq false ht u hu o k = rw (hp, hq, ht) (leaves (ap (λ (y : Peeling). y .answer) (rw (hp, hq, ht) at k)) (ap (λ (y : Peeling). y .report) (rw (hp, hq, ht) at k)) refl refl refl)
+      go true hp false hq true ht false hu o k = rw (hp, hq, ht, hu) (leaves (ap (λ (y : Peeling). y .answer) (rw (hp, hq, ht, hu) at k)) (ap (λ (y : Peeling). y .report) (rw (hp, hq, ht, hu) at k)) refl refl refl)
       go true hp false hq true ht true hu o k = let z : _≡_ {A = Bool} true false = rw (hp, hq, ht, hu) at o in absurd (true≢false z)
 
 -- ---- as the call meets them, with its count of the edges

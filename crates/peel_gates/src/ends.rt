@@ -3,7 +3,7 @@ ghost use mathlib.Core.Path.{_≡_};
 ghost use Prim.Native.Nat.{_≤_};
 ghost use Rattle.answers.specs.Sizes.{maxEquations};
 ghost use Rattle.answers.specs.declared.Answer.the-variants.{CrowdedVertex};
-ghost use Rattle.peel_rules.specs.Report.{noReport};
+ghost use Rattle.peel_rules.specs.Report.{noReport, reportOf};
 ghost use Rattle.peel_gates.specs.Ends.{endOf};
 use answers::Answer;
 use peel_rules::report::StuckReport;
@@ -31,11 +31,25 @@ pub fn ended(m: usize, peeled: usize) -> Peeling
     if peeled < m {
         return Peeling {
             answer: Answer::Stuck(peeled),
-            report: StuckReport::of(peeled, m),
+            report: report_of(peeled, m),
         };
     }
     Peeling {
         answer: Answer::Solved,
         report: StuckReport::none(),
+    }
+}
+
+// The report of a peeler that peeled some of the edges.
+fn report_of(peeled: usize, edges: usize) -> StuckReport
+    requires { ⌜ (peeled ≤ edges) × (edges ≤ maxEquations) ⌝ }
+    ensures { λ r. ⌜ r ≡ reportOf peeled edges ⌝ }
+{
+    let unpeeled = edges - peeled;
+    let share = 100.0 * (unpeeled as f64);
+    StuckReport {
+        peeled,
+        edges,
+        unpeeled: share / (edges as f64),
     }
 }

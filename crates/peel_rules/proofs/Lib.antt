@@ -18,3 +18,5 @@ pub mod PeelFilling
 pub mod PeelRoom
 pub mod PeelTheorems
 pub mod PeelCalls
+pub mod CallTheorems
+pub mod CallExamples

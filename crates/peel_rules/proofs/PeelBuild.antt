@@ -11,9 +11,10 @@ use lib.Bits.{bitXor, xor-comm}
 use Rattle.peel_rules.specs.Edges.{Valid, touches, degree, Side, side0, side1, side2, sideOf, pivot}
 use Rattle.peel_rules.specs.Peel.{crowd}
 use Rattle.peeling.specs.Graph.{Graph, add}
+use Rattle.peeling.proofs.Bytes.{byte-rises}
 use Rattle.peel_rules.specs.Machine.{noEdge, sideNo, addEdge, build, empty}
 use Rattle.peel_rules.proofs.PeelBasic.{pivot-of, touches-a, touches-b, touches-c}
-use Rattle.peel_rules.proofs.PeelXor.{Numbered, edgesN, xorN, xor-below, byte-rises, xor-snoc, degree-snoc, xorIf}
+use Rattle.peel_rules.proofs.PeelXor.{Numbered, edgesN, xorN, xor-below, xor-snoc, degree-snoc, xorIf}
 use Rattle.peel_rules.proofs.PeelRefines.{sideW, numberW, Cell, Named, side-small}
 use Rattle.gf2.proofs.OneValue.{zeros-at}
 use Rattle.gf2.specs.Equation.{Each}

@@ -2,7 +2,7 @@
 use mathlib.Core.Path.{_≡_, refl, sym, ap, _∙_}
 use mathlib.Core.List.{List, [], _∷_, map}
 use mathlib.Core.Bool.{Bool, true, false}
-use Prim.Native.Nat.{ℕ, zero, suc, _<_}
+use Prim.Native.Nat.{ℕ, suc, _<_}
 use native.Mathlib.Omega.{arith}
 use lib.ListN.{List·getD-eq-default, length, getD}
 use lib.Dec.{eqb, ltb}
@@ -11,13 +11,11 @@ use Rattle.gf2.specs.Equation.{Each}
 use Rattle.peeling.specs.declared.numbers.Edge.{Edge}
 use Rattle.peeling.specs.Graph.{Graph, degreeOf, sidesOf}
 use Rattle.peel_rules.specs.Edges.{Valid, Side, side0, side1, side2, pivot}
-use Rattle.peel_rules.specs.Peel.{Peeled, peel, crowdedVertex}
-use Rattle.peel_rules.specs.Machine.{noEdge, sideNo, sideFrom, Machine, mpopped, mpop, mstep, mrun, mstart, takeOff, High, hpopped, hpop, hstep, hrun, hstart}
-use Rattle.peel_rules.proofs.PeelSolved.{Good, peel-inv}
-use Rattle.peel_rules.proofs.PeelXor.{edgesN}
-use Rattle.peel_rules.proofs.PeelRefines.{Kept, Sim, pivotOf}
-use Rattle.peel_rules.proofs.PeelAnswers.{sim-peel}
-use Rattle.peel_rules.proofs.PeelHigh.{rowsOf, HighSim, high-peel}
+use Rattle.peel_rules.specs.Peel.{Peeled}
+use Rattle.peel_rules.specs.Machine.{noEdge, sideNo, sideFrom, Machine, mpopped, mpop, mstep, takeOff, High, hpopped, hpop, hstep}
+use Rattle.peel_rules.proofs.PeelSolved.{Good}
+use Rattle.peel_rules.proofs.PeelRefines.{Kept, pivotOf}
+use Rattle.peel_rules.proofs.PeelHigh.{rowsOf}
 
 -- edge number i and side t can be filled
 pub record Fillable (T : List Edge) (n i t : ℕ) : Type 0 where
@@ -68,13 +66,6 @@ kept-fillable T n g left es (p ∷ ps) k h = (
   kept-fillable T n g left (p .edge ∷ es) ps (k .1) (h .2),
 )
 
--- each vertex of the upper stack, at the end
-pub low-fillable : (n : ℕ) (T : List Edge) → Each (Valid n) T → crowdedVertex n T ≡ n
-    → Each (FillableAt T n (mrun T n (mstart n T) .graph)) (mrun T n (mstart n T) .upper)
-low-fillable n T va un =
-    let r : Sim T n (peel n T) (mrun T n (mstart n T)) = sim-peel n T va un in
-    rw (r .machine) (kept-fillable T n (r .graph) (edgesN (r .ns)) (peel n T .left) (peel n T .peeled) (r .rel .kept) (peel-inv n T va .good))
-
 -- ---- the high-memory machine is the low one, with numbers and sides aside
 
 -- a number and a side for each vertex of the upper stack
@@ -98,15 +89,6 @@ beside-step T m h r = rw (r .graph, r .stack) (go (m .lower))
     go [] = record { graph = refl; stack = refl; numbers = r .numbers; sides = r .sides }
     go (v ∷ st) = beside-popped T (m .graph) v st (m .upper) (h .numbers) (h .sides) (eqb (degreeOf (m .graph) v) 0) (r .numbers) (r .sides)
 
--- so every law of the low-memory machine's turns holds of the high one's
-pub beside-run : (T : List Edge) (n k : ℕ) → Beside (mrun T k (mstart n T)) (hrun T k (hstart n T))
-unfolding mstart hstart mrun hrun
-beside-run T n k = go k (mstart n T) (hstart n T) (record { graph = refl; stack = refl; numbers = refl; sides = refl })
-  where
-    go : (k : ℕ) (m : Machine) (h : High) → Beside m h → Beside (mrun T k m) (hrun T k h)
-    go zero m h r = r
-    go (suc k) m h r = go k (mstep T m) (hstep T h) (beside-step T m h r)
-
 -- each number and side kept aside, at the end
 abbrev pub AllFillable : List Edge → ℕ → List ℕ → List ℕ → Type 0
 AllFillable T n [] ts = Unit {0}
@@ -126,9 +108,3 @@ rows-fillable T n es (p ∷ ps) (i ∷ is) (t ∷ ts) r s c h =
       record { number = in-table T n i (p .edge) e (h .0); side-3 = omega (arith, side-three (p .side)); valid = rw e (h .0) },
       rows-fillable T n (p .edge ∷ es) ps is ts (cc) (cc) (omega arith) (h .2),
     )
-
-pub high-fillable : (n : ℕ) (T : List Edge) → Each (Valid n) T → crowdedVertex n T ≡ n
-    → AllFillable T n (hrun T n (hstart n T) .numbers) (hrun T n (hstart n T) .sides)
-high-fillable n T va un =
-    let r : HighSim T n (peel n T) (hrun T n (hstart n T)) = high-peel n T va un in
-    rw (r .high) (rows-fillable T n (peel n T .left) (peel n T .peeled) (r .numbers) (r .sides) (r .rows) (r .side-nos) (r .count) (peel-inv n T va .good))

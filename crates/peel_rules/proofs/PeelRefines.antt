@@ -17,9 +17,10 @@ use Rattle.peel_rules.proofs.PeelSolved.{Inv, falls, falls-one, inv-ste
 use Rattle.peel_rules.proofs.PeelEmpty.{first<, second<, first≢second}
 use Rattle.peel_rules.proofs.PeelCore.{touched-below, vertex}
 use Rattle.peel_rules.specs.Machine.{graphAfter, stackAfter, noEdge, sideNo, sideFrom, firstSide, secondSide, Machine, mpush, sideAt, takeOff, mpopped, mpop, mstep, mrun, assign}
-use Rattle.peel_rules.proofs.PeelXor.{Numbered, edgesN, firstN, withoutN, edges-without, first-edge, xorN, xor-other, xor-removed, xor-alone, xor-below, byte-falls}
+use Rattle.peel_rules.proofs.PeelXor.{Numbered, edgesN, firstN, withoutN, edges-without, first-edge, xorN, xor-other, xor-removed, xor-alone, xor-below}
 use Rattle.peel_rules.specs.Edges.{Valid, touches, bump, degree, edgeAt, without, Side, side0, side1, side2, sideOf, pivot, first, second}
 use Rattle.peeling.specs.Graph.{Graph, degreeOf, remove, clear}
+use Rattle.peeling.proofs.Bytes.{byte-falls}
 use Rattle.peeling.specs.declared.numbers.Edge.{Edge}
 
 -- ---- sides

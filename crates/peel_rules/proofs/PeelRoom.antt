@@ -61,10 +61,6 @@ upper-set : (arr us : List ℕ) (i v : ℕ) → i + length us < length arr → U
 upper-set arr [] i v h l = tt
 upper-set arr (w ∷ us) i v h l = rw (length-set arr i v) (getD-set-other arr i (length arr - suc (length us)) v 0 (omega arith) ∙ l .0, upper-set arr us i v (omega arith) (l .1))
 
-pub push-lower : (arr st us : List ℕ) (v : ℕ) → length st + length us < length arr → Lower arr st → Upper arr us
-    → Lower (set arr (length st) v) (v ∷ st) × Upper (set arr (length st) v) us
-push-lower arr st us v h l u = ((getD-set-same arr (length st) v 0 (omega arith), lower-set arr st (length st) v (omega arith) l), upper-set arr us (length st) v h u)
-
 pub push-upper : (arr st us : List ℕ) (v : ℕ) → length st + length us < length arr → Lower arr st → Upper arr us
     → Lower (set arr (length arr - suc (length us)) v) st × Upper (set arr (length arr - suc (length us)) v) (v ∷ us)
 push-upper arr st us v h l u =

@@ -1,27 +1,24 @@
 -- What holds of the low-memory machine after any number of pops: what the code asks before each turn, and why the turns end.
-use mathlib.Core.Path.{_≡_, refl, sym, ap, _∙_, subst, subst₂}
+use mathlib.Core.Path.{_≡_, refl, sym, ap, _∙_, subst}
 use mathlib.Core.List.{List, [], _∷_}
 use mathlib.Core.Bool.{Bool, true, false, cond}
-use mathlib.Core.Option.{Option, none, some}
-use Prim.Native.Nat.{ℕ, zero, suc, _+_, _-_, _/_, _≤_, _<_}
+use Prim.Native.Nat.{ℕ, zero, suc, _+_, _-_, _≤_, _<_}
 use native.Mathlib.Omega.{arith}
 use native.Mathlib.Nat.{zero-add, suc-add}
-use lib.ListN.{length, getD, length-map}
-use lib.Dec.{eqb, leb}
-use borrow.Author.Tests.{eqb-true, leb-true, leb-false}
+use lib.ListN.{length}
+use lib.Dec.{eqb}
 use Rattle.gf2.specs.Equation.{Each}
 use Rattle.peeling.specs.declared.numbers.Edge.{Edge}
 use Rattle.peeling.specs.Graph.{Graph, degreeOf}
-use Rattle.peel_rules.specs.Edges.{Valid, degree, edgeAt, sideOf, first, second}
-use Rattle.peel_rules.specs.Peel.{Peeled, State, push, popped, step, run, ones, start, peel, crowdedVertex}
+use Rattle.peel_rules.specs.Edges.{Valid, degree, sideOf, first, second}
+use Rattle.peel_rules.specs.Peel.{State, push, popped, step, run, ones, start, crowdedVertex}
 use Rattle.peel_rules.specs.Machine.{Machine, mstep, mpop, mrun, mstart}
-use Rattle.peel_rules.proofs.PeelBasic.{at-none, all-at, step-inv, run-inv}
+use Rattle.peel_rules.proofs.PeelBasic.{all-at, step-inv, run-inv}
 use Rattle.peel_rules.proofs.PeelSolved.{Inv, inv-skip, inv-takes, start-inv}
-use Rattle.peel_rules.proofs.PeelEmpty.{sumTo, heavy, weight, first<, second<, peel-empties, step-falls, sum-cong}
-use Rattle.peel_rules.proofs.PeelXor.{Numbered, edgesN, first-edge, xor-below}
-use Rattle.peel_rules.proofs.PeelRefines.{Rel, Sim, pivotOf, isPivot, kept-pivot, TakeFacts, take-facts, idle-degree, sim-run, side-small, sideW}
+use Rattle.peel_rules.proofs.PeelEmpty.{sumTo, heavy, weight, first<, second<, step-falls, sum-cong}
+use Rattle.peel_rules.proofs.PeelXor.{edgesN, xor-below}
+use Rattle.peel_rules.proofs.PeelRefines.{Rel, Sim, isPivot, kept-pivot, sim-run, side-small, sideW}
 use Rattle.peel_rules.proofs.PeelAnswers.{sim-start}
-use Rattle.peel_rules.proofs.PeelRoom.{both-fit}
 
 -- ---- runs
 
@@ -111,32 +108,6 @@ module _ (T : List Edge) (n : ℕ) (va : Each (Valid n) T) (un : crowdedVertex n
   rel-at : (k : ℕ) → Rel T n (sim-at k .ns) (past k .peeled) (at k .graph)
   rel-at k = subst (λ (g : Graph). Rel T n (sim-at k .ns) (past k .peeled) g) (sym (graph-at k)) (sim-at k .rel)
 
-  -- the graph keeps its size
-  pub turn-sizes : (k : ℕ) → (length (at k .graph .edges) ≡ n) × (length (at k .graph .degrees) ≡ n)
-  turn-sizes k = (rel-at k .size-x, rel-at k .size-d)
-
-  -- both stacks fit n cells together
-  pub turn-room : (k : ℕ) → length (at k .lower) + length (at k .upper) ≤ n
-  turn-room k = rw (sim-at k .machine) (rw (length-map (past k .peeled) pivotOf) (both-fit n k T va))
-
-  -- nothing is left on the stack after n pops; a machine with an empty stack is at its end
-  pub turn-ends : (k : ℕ) → at k .lower ≡ [] → at k ≡ at n
-  unfolding peel
-  turn-ends k h = same (leb k n) refl
-    where
-      last : at n .lower ≡ []
-      last = stack-at n ∙ peel-empties n T va
-
-      same : (b : Bool) → leb k n ≡ b → at k ≡ at n
-      same true q =
-          let l : k ≤ n = leb-true k n q in
-          let p : k + (n - k) ≡ n = omega arith in
-          sym (ap at (sym p) ∙ mrun-add T k (n - k) (mstart n T) ∙ mrun-idle T (n - k) (at k) h)
-      same false q =
-          let l : n < k = leb-false k n q in
-          let p : n + (k - n) ≡ k = omega arith in
-          ap at (sym p) ∙ mrun-add T n (k - n) (mstart n T) ∙ mrun-idle T (k - n) (at n) last
-
   -- the degrees in the bytes
   degrees-at : (k w : ℕ) → w < n → degreeOf (at k .graph) w ≡ degree w (past k .left)
   degrees-at k w h = go (isPivot w (past k .peeled)) refl
@@ -161,37 +132,9 @@ module _ (T : List Edge) (n : ℕ) (va : Each (Valid n) T) (un : crowdedVertex n
     stack : past k .stack ≡ v ∷ st
     stack = sym (stack-at k) ∙ top
 
-    -- the top of the stack is a vertex
-    pub turn-vertex : v < n
-    unfolding Below
-    turn-vertex = (rw stack at (sane .below)) .0
-
     -- a pop more is less to do
     pub turn-less : work n (at (suc k) .graph) (at (suc k) .lower) < work n (at k .graph) (at k .lower)
     turn-less =
         let c : weight n (past (suc k) .left) (past (suc k) .stack) ≡ weight n (step (past k) .left) (step (past k) .stack)
         = ap (λ (s : State). weight n (s .left) (s .stack)) (run-suc k (start n T)) in
         omega (arith, work-is k, work-is (suc k), c, step-falls n (past k) v st (sane .inv) stack)
-
-    -- a vertex of some degree lies on one edge, which can be taken off
-    pub turn-facts : 4 ≤ getD (at k .graph .degrees) v 0 → TakeFacts T n (at k .graph) v
-    turn-facts h = pick (edgeAt v (edgesN ns)) refl
-      where
-        ns : List Numbered
-        ns = sim-at k .ns
-
-        g : Graph
-        g = at k .graph
-
-        ps : List Peeled
-        ps = past k .peeled
-
-        inv : Inv n (record { left = edgesN ns; stack = v ∷ st; peeled = ps })
-        inv = subst₂ (λ (a : List Edge) (b : List ℕ). Inv n (record { left = a; stack = b; peeled = ps })) (sim-at k .left) stack (sane .inv)
-
-        pick : (o : Option Edge) → edgeAt v (edgesN ns) ≡ o → TakeFacts T n g v
-        pick none q = absurd (omega (arith, h, eqb-true (getD (g .degrees) v 0 / 4) 0 (idle-degree T n ns v ps g (at-none v (edgesN ns) q) (rel-at k))))
-        pick (some e) q =
-            let f = first-edge v ns e q in
-            let q′ : edgeAt v (edgesN ns) ≡ some (f .0 .edge) = rw (f .2) q in
-            take-facts T n ns v st ps g (f .0) (f .1) q′ inv (rel-at k)

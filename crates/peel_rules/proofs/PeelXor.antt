@@ -3,9 +3,9 @@ use mathlib.Core.Path.{_≡_, refl, sym, ap, _∙_}
 use mathlib.Core.List.{List, [], _∷_, _++_}
 use mathlib.Core.Bool.{Bool, true, false, cond}
 use mathlib.Core.Option.{Option, none, some}
-use Prim.Native.Nat.{ℕ, suc, _+_, _-_, _*_, _%_, _^_, _<_}
+use Prim.Native.Nat.{ℕ, _^_, _<_}
 use native.Mathlib.Omega.{arith}
-use lib.Bits.{bitXor, xor-comm, xor-lt, xor-zero-r, xor-block}
+use lib.Bits.{bitXor, xor-comm, xor-lt, xor-zero-r}
 use Rattle.peel_rules.proofs.PeelBasic.{some-inj, none≢some, bump-comm}
 use Rattle.gf2.proofs.XorLaws.{xor-assoc, xor-laws}
 use Rattle.peel_rules.specs.Edges.{touches, bump, degree, edgeAt, without}
@@ -130,21 +130,3 @@ pub degree-snoc : (v : ℕ) (ns : List Numbered) (q : Numbered) → degree v (ed
 unfolding edgesN degree
 degree-snoc v [] q = refl
 degree-snoc v (r ∷ ns) q = ap (bump (touches v (r .edge))) (degree-snoc v ns q) ∙ bump-comm (touches v (r .edge)) (touches v (q .edge)) (degree v (edgesN ns))
-
--- ---- the byte
--- a side comes into the byte
-byte-side : (d s t : ℕ) → s < 4 → t < 4 → bitXor (d * 4 + s) t ≡ d * 4 + bitXor s t
-byte-side d s t hs ht =
-    let q : 0 * 4 + t ≡ t = omega arith in
-    ap (bitXor (d * 4 + s)) (sym q) ∙ xor-block 2 d 0 s t hs ht ∙ ap (λ (z : ℕ). z * 4 + bitXor s t) (xor-zero-r d)
-
--- one incidence more, in a byte that has room for 63
-pub byte-rises : (d s t : ℕ) → s < 4 → t < 4 → bitXor ((d % 64 * 4 + s + 4) % 256) t ≡ suc d % 64 * 4 + bitXor t s
-byte-rises d s t hs ht =
-    let p : (d % 64 * 4 + s + 4) % 256 ≡ suc d % 64 * 4 + s = omega arith in
-    ap (λ (z : ℕ). bitXor z t) p ∙ byte-side (suc d % 64) s t hs ht ∙ ap (λ (z : ℕ). suc d % 64 * 4 + z) (xor-comm s t)
-
-pub byte-falls : (d s t : ℕ) → s < 4 → t < 4 → bitXor (suc d * 4 + s - 4) t ≡ d * 4 + bitXor s t
-byte-falls d s t hs ht =
-    let p : suc d * 4 + s - 4 ≡ d * 4 + s = omega arith in
-    ap (λ (z : ℕ). bitXor z t) p ∙ byte-side d s t hs ht

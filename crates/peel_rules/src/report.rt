@@ -1,8 +1,6 @@
 // What a peeler tells of edges that it could not peel.
 ghost use mathlib.Core.Path.{_≡_};
-ghost use Prim.Native.Nat.{_≤_};
-ghost use Rattle.answers.specs.Sizes.{maxEquations};
-ghost use Rattle.peel_rules.specs.Report.{noReport, reportOf};
+ghost use Rattle.peel_rules.specs.Report.{noReport};
 
 pub struct StuckReport {
     // Edges peeled: those outside the core.
@@ -22,20 +20,6 @@ impl StuckReport {
             peeled: 0,
             edges: 0,
             unpeeled: 0.0,
-        }
-    }
-
-    // The report of a peeler that peeled some of the edges.
-    pub fn of(peeled: usize, edges: usize) -> StuckReport
-        requires { ⌜ (peeled ≤ edges) × (edges ≤ maxEquations) ⌝ }
-        ensures { λ r. ⌜ r ≡ reportOf peeled edges ⌝ }
-    {
-        let unpeeled = edges - peeled;
-        let share = 100.0 * (unpeeled as f64);
-        StuckReport {
-            peeled,
-            edges,
-            unpeeled: share / (edges as f64),
         }
     }
 }

@@ -1,2 +1,3 @@
 pub mod RunRules
 pub mod RunLaws
+pub mod OneResult

@@ -9,11 +9,12 @@ use lib.Dec.{ltb}
 use borrow.Author.Tests.{lt-ltb, le-ltb}
 use Rattle.areas.specs.Stretch.{cleared}
 use Rattle.areas.proofs.Stretch.{cleared-same}
+use Rattle.answers.specs.Numbers.{numberOf, placeOf}
 use Rattle.answers.specs.declared.Answer.the-variants.{CrowdedVertex}
 use Rattle.peeling.specs.declared.numbers.Edge.{Edge}
 use Rattle.peel_rules.specs.Peel.{Outcome, solved, stuck, answer, crowdedVertex}
 use Rattle.peel_rules.specs.Report.{noReport}
-use Rattle.peel_rules.specs.Calls.{ended, ran}
+use Rattle.peel_rules.specs.Calls.{PeelCall, ended, ran}
 use Rattle.peel_rules.proofs.PeelCrowd.{crowded-lowest}
 use Rattle.peel_gates.specs.declared.ends.Peeling.{Peeling}
 use Rattle.peel_gates.specs.Rooms.{numbersRoom, bytesRoom}
@@ -23,6 +24,10 @@ use Rattle.peel_walks.specs.Walks.{Begins}
 use Rattle.peel_parts.specs.Parts.{GraphBuilt, Says, ranSays, Admitted, GraphAsks, Past}
 use Rattle.peel_runs.specs.Runs.{BuiltAsks, Leaves, runSays, runCall}
 use Rattle.peel_parts.proofs.PartLaws.{room-least, lent-on}
+
+-- number and place go with the answer
+pub leaves : {c : PeelCall} {r : Peeling} {s n b : List ℕ} → r .answer ≡ c .answer → r .report ≡ c .report → s ≡ c .solution → n ≡ c .numbers → b ≡ c .bytes → Leaves c r s n b
+leaves a e x y z = record { answer = a; number = ap numberOf a; place = ap placeOf a; report = e; solution-is = x; numbers-are = y; bytes-are = z }
 
 -- the room is zero where what lies behind it is as it was lent
 left-as : (high : Bool) (n m k : ℕ) (numbers bytes d b : List ℕ) {d′ b′ : List ℕ} → m ≡ k → Left high n m d b d′ b′ → drop (numbersRoom high n m) d ≡ drop (numbersRoom high n m) numbers → drop (bytesRoom high n m) b ≡ drop (bytesRoom high n m) bytes
@@ -91,10 +96,10 @@ module _ {high : Bool} {n m : ℕ} {T : List Edge} {cells numbers bytes : List �
         go : (t : Bool) → ltb (crowdedVertex n T) n ≡ t → (o : Outcome) → answer n T ≡ o → Says (runSays high n T cells) r x → Leaves (runCall high n T cells numbers bytes) r x d′ b′
         go true q o ho k =
             let c : Says (ended (numbersRoom high n (length T)) (bytesRoom high n (length T)) (CrowdedVertex (crowdedVertex n T)) noReport cells [] []) r x = rw q at k in
-            rw q (record { answer = c .answer; report = c .report; solution-is = c .solution-is; numbers-are = z .0; bytes-are = z .1 })
+            rw q (leaves (c .answer) (c .report) (c .solution-is) (z .0) (z .1))
         go false q (solved y) ho k =
             let c : Says (ran (numbersRoom high n (length T)) (bytesRoom high n (length T)) (length T) (solved y) cells [] []) r x = rw (q, ho) at k in
-            rw (q, ho) (record { answer = c .answer; report = c .report; solution-is = c .solution-is; numbers-are = z .0; bytes-are = z .1 })
+            rw (q, ho) (leaves (c .answer) (c .report) (c .solution-is) (z .0) (z .1))
         go false q (stuck j) ho k =
             let c : Says (ran (numbersRoom high n (length T)) (bytesRoom high n (length T)) (length T) (stuck j) cells [] []) r x = rw (q, ho) at k in
-            rw (q, ho) (record { answer = c .answer; report = c .report; solution-is = c .solution-is; numbers-are = z .0; bytes-are = z .1 })
+            rw (q, ho) (leaves (c .answer) (c .report) (c .solution-is) (z .0) (z .1))

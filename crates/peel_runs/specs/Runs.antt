@@ -4,6 +4,7 @@ use mathlib.Core.List.{List, []}
 use mathlib.Core.Bool.{Bool}
 use Prim.Native.Nat.{ℕ}
 use lib.ListN.{length}
+use Rattle.answers.specs.Numbers.{numberOf, placeOf}
 use Rattle.peeling.specs.declared.numbers.Edge.{Edge}
 use Rattle.peel_rules.specs.Peel.{answer, crowdedVertex}
 use Rattle.peel_rules.specs.Machine.{build, empty}
@@ -19,9 +20,11 @@ pub record BuiltAsks (high : Bool) (n m low : ℕ) (T : List Edge) (cells number
   pub graph : graphIn n numbers bytes ≡ build 0 T (empty n)
   pub crowd : low ≡ crowdedVertex n T
 
--- the answer and every lent cell are as the definition of the call says
+-- the answer, by its number and place, and every lent cell are as the definition of the call says
 pub record Leaves (c : PeelCall) (r : Peeling) (solution numbers bytes : List ℕ) : Type 0 where
   pub answer : r .answer ≡ c .answer
+  pub number : numberOf (r .answer) ≡ numberOf (c .answer)
+  pub place : placeOf (r .answer) ≡ placeOf (c .answer)
   pub report : r .report ≡ c .report
   pub solution-is : solution ≡ c .solution
   pub numbers-are : numbers ≡ c .numbers

@@ -1,8 +1,9 @@
 // A graph of edges with three vertices: for each vertex the XOR of its edges' numbers, and a byte with its degree and the XOR of its sides.
 ghost use mathlib.Core.Path.{_≡_};
 ghost use mathlib.Core.Bool.{false};
-ghost use Rattle.peeling.specs.Graph.{graphOf};
+ghost use Rattle.peeling.specs.Graph.{graphOf, holdsVertex};
 ghost use Rattle.peeling.specs.GraphCalls.{emptyVertex, notAdded, noEdgeAndSide, noDegree, addCall, removeCall, zeroCall, edgeAndSideCall, degreeCall};
+ghost use Rattle.peeling.specs.GraphCalls.{DomainAnswer, mayAdd, mayRemove, mayRead};
 use crate::incidence::add_at;
 use crate::incidence::degree_at;
 use crate::incidence::number_at;
@@ -68,6 +69,7 @@ impl XorGraph {
     pub fn add(self, edges: &mut [u32], degrees: &mut [u8], v: Vertex, x: EdgeNo, side: u8) -> Added
         ensures { λ r. ⌜ r ≡ addCall (graphOf (now (edges .entry)) (now (degrees .entry))) (self .overflow) (v .0) (x .0) side .result ⌝ }
         ensures graph { λ _. ⌜ graphOf (now (edges .exit)) (now (degrees .exit)) ≡ addCall (graphOf (now (edges .entry)) (now (degrees .entry))) (self .overflow) (v .0) (x .0) side .graph ⌝ }
+        ensures numbers { λ r. ⌜ DomainAnswer (mayAdd (graphOf (now (edges .entry)) (now (degrees .entry))) (v .0) side) (r .answer) ⌝ }
     {
         let i = v.0 as usize;
         if edges.len() <= i {
@@ -102,6 +104,7 @@ impl XorGraph {
     pub fn remove(edges: &mut [u32], degrees: &mut [u8], v: Vertex, x: EdgeNo, side: u8) -> Answer
         ensures { λ r. ⌜ r ≡ removeCall (graphOf (now (edges .entry)) (now (degrees .entry))) (v .0) (x .0) side .answer ⌝ }
         ensures graph { λ _. ⌜ graphOf (now (edges .exit)) (now (degrees .exit)) ≡ removeCall (graphOf (now (edges .entry)) (now (degrees .entry))) (v .0) (x .0) side .graph ⌝ }
+        ensures numbers { λ r. ⌜ DomainAnswer (mayRemove (graphOf (now (edges .entry)) (now (degrees .entry))) (v .0) side) r ⌝ }
     {
         let i = v.0 as usize;
         if edges.len() <= i {
@@ -124,6 +127,7 @@ impl XorGraph {
     pub fn zero(edges: &mut [u32], degrees: &mut [u8], v: Vertex) -> Answer
         ensures { λ r. ⌜ r ≡ zeroCall (graphOf (now (edges .entry)) (now (degrees .entry))) (v .0) .answer ⌝ }
         ensures graph { λ _. ⌜ graphOf (now (edges .exit)) (now (degrees .exit)) ≡ zeroCall (graphOf (now (edges .entry)) (now (degrees .entry))) (v .0) .graph ⌝ }
+        ensures numbers { λ r. ⌜ DomainAnswer (holdsVertex (graphOf (now (edges .entry)) (now (degrees .entry))) (v .0)) r ⌝ }
     {
         let i = v.0 as usize;
         if edges.len() <= i {
@@ -138,6 +142,7 @@ impl XorGraph {
 
     pub fn edge_and_side(edges: &[u32], degrees: &[u8], v: Vertex) -> EdgeAndSide
         ensures { λ r. ⌜ r ≡ edgeAndSideCall (graphOf (now (edges .entry)) (now (degrees .entry))) (v .0) ⌝ }
+        ensures numbers { λ r. ⌜ DomainAnswer (mayRead (graphOf (now (edges .entry)) (now (degrees .entry))) (v .0)) (r .answer) ⌝ }
     {
         let i = v.0 as usize;
         if edges.len() <= i {
@@ -158,6 +163,7 @@ impl XorGraph {
 
     pub fn degree(edges: &[u32], degrees: &[u8], v: Vertex) -> DegreeRead
         ensures { λ r. ⌜ r ≡ degreeCall (graphOf (now (edges .entry)) (now (degrees .entry))) (v .0) ⌝ }
+        ensures numbers { λ r. ⌜ DomainAnswer (holdsVertex (graphOf (now (edges .entry)) (now (degrees .entry))) (v .0)) (r .answer) ⌝ }
     {
         let i = v.0 as usize;
         if edges.len() <= i {

@@ -10,12 +10,12 @@ use Rattle.areas.specs.Rows.{laid}
 use Rattle.areas.proofs.Rows.{length-laid}
 use Rattle.areas.proofs.Stretch.{put-at, put-all, put-append-left}
 use Rattle.gf2.specs.Equation.{Equation}
-use Rattle.answers.specs.Sizes.{sparseNumbers}
+use Rattle.answers.specs.Sizes.{rowNumbers}
 use Rattle.rows.specs.Picture.{varsOf, lengthOf, Drawn}
 use Rattle.rows.proofs.Holding.{as-parts, narrow, many, all, past-numbers}
 
 module _ {n m : ℕ} {rows : List Equation} {rest rest′ numbers words : List ℕ} (d : Drawn n m rows rest rest′ numbers words) where
-  pub emptied : (numbers₁ numbers₂ : List ℕ) → numbers₁ ≡ zeroed 0 (0 + m * n) numbers → numbers₂ ≡ zeroed (m * n + n) (m * n + n + m) numbers₁ → numbers₂ ≡ cleared (sparseNumbers n m) numbers
+  pub emptied : (numbers₁ numbers₂ : List ℕ) → numbers₁ ≡ zeroed 0 (0 + m * n) numbers → numbers₂ ≡ zeroed (m * n + n) (m * n + n + m) numbers₁ → numbers₂ ≡ cleared (rowNumbers n m) numbers
   unfolding cleared
   emptied numbers₁ numbers₂ e f =
       let held : List ℕ = laid n (map varsOf rows) in

@@ -14,7 +14,7 @@ use Rattle.areas.proofs.Offsets.{row-before}
 use Rattle.gf2.specs.Equation.{Each, Equation, eqn, Rising, sum}
 use Rattle.gf2.proofs.Each.{each-at, each-set}
 use Rattle.gf2.proofs.SymDiff.{rising-length}
-use Rattle.answers.specs.Sizes.{sparseNumbers, sparseWords}
+use Rattle.answers.specs.Sizes.{rowNumbers, rowWords}
 use Rattle.rows.specs.Padding.{PaddedRows}
 use Rattle.rows.specs.Picture.{varsOf, lengthOf, constantOf, picture, Drawn, Kept, tab, slot, rowsOf, Held, Became, rowAt, swapped, added}
 use Rattle.rows.proofs.Padding.{rows-padded}
@@ -170,15 +170,15 @@ module _ {n m : ℕ} {rows : List Equation} {rest rest′ numbers words : List �
 
   -- ---- past the room
 
-  room-long : length (parts n (map varsOf rows) (map lengthOf rows)) ≡ sparseNumbers n m
+  room-long : length (parts n (map varsOf rows) (map lengthOf rows)) ≡ rowNumbers n m
   room-long =
       ap length (sym (append-nil (parts n (map varsOf rows) (map lengthOf rows))))
       ∙ length-parts n m (map varsOf rows) (map lengthOf rows) [] narrow many all ∙ add-zero (m * n + n + m)
 
-  pub past-numbers : drop (sparseNumbers n m) numbers ≡ rest
-  past-numbers = ap (drop (sparseNumbers n m)) as-parts ∙ drop-at (parts n (map varsOf rows) (map lengthOf rows)) rest (sparseNumbers n m) room-long
+  pub past-numbers : drop (rowNumbers n m) numbers ≡ rest
+  past-numbers = ap (drop (rowNumbers n m)) as-parts ∙ drop-at (parts n (map varsOf rows) (map lengthOf rows)) rest (rowNumbers n m) room-long
 
-  past-words : drop (sparseWords m) words ≡ rest′
+  past-words : drop (rowWords m) words ≡ rest′
   past-words = ap (drop m) (d .words-are) ∙ drop-at (map constantOf rows) rest′ m constants
 
   -- ---- the rows that are held
@@ -192,7 +192,7 @@ module _ {n m : ℕ} {rows : List Equation} {rest rest′ numbers words : List �
 
   pub held : Held n m numbers words
   held =
-      subst (λ (r : List Equation). Drawn n m r (drop (sparseNumbers n m) numbers) (drop (sparseWords m) words) numbers words) (sym rows-are)
+      subst (λ (r : List Equation). Drawn n m r (drop (rowNumbers n m) numbers) (drop (rowWords m) words) numbers words) (sym rows-are)
       (subst₂ (λ (x y : List ℕ). Drawn n m rows x y numbers words) (sym past-numbers) (sym past-words) d)
 
   pub rest-kept : Kept n m rest rest′ numbers words
@@ -203,7 +203,7 @@ module _ {n m : ℕ} {rows : List Equation} {rest rest′ numbers words : List �
   drawn-padded = rw (d .count, length-replicate {A = ℕ} n 0) at (rows-padded n rows (replicate n 0) rest narrow (as-parts ∙ simp append-assoc))
 
   -- what a call says of the rows that its areas held, said of these rows
-  pub carried : (P : List Equation → List ℕ → List ℕ → Type 0) → P (rowsOf n m numbers words) (drop (sparseNumbers n m) numbers) (drop (sparseWords m) words) → P rows rest rest′
+  pub carried : (P : List Equation → List ℕ → List ℕ → Type 0) → P (rowsOf n m numbers words) (drop (rowNumbers n m) numbers) (drop (rowWords m) words) → P rows rest rest′
   carried P p =
       subst (λ (r : List Equation). P r rest rest′) rows-are
       (subst₂ (λ (x y : List ℕ). P (rowsOf n m numbers words) x y) past-numbers past-words p)

@@ -10,7 +10,7 @@ use Rattle.areas.specs.Rows.{padded, laid}
 use Rattle.areas.proofs.Rows.{laid-empty, padded-full}
 use Rattle.areas.proofs.Offsets.{row-before}
 use Rattle.gf2.specs.Equation.{Each, Equation, eqn, Rising}
-use Rattle.answers.specs.Sizes.{sparseNumbers, sparseWords}
+use Rattle.answers.specs.Sizes.{rowNumbers, rowWords}
 use Rattle.rows.specs.Picture.{varsOf, lengthOf, constantOf, Drawn, rowAt}
 use Rattle.rows.proofs.Put.{parts}
 use Rattle.rows.proofs.Holding.{draw, rising-narrow, store}
@@ -33,11 +33,11 @@ blank-parts n m rest =
     ∙ (let e : m * n + (n + m) ≡ m * n + n + m = omega arith in ap (λ (k : ℕ). replicate k 0) e))))
 
 pub blank-drawn : (n m : ℕ) (numbers words : List ℕ)
-    → Drawn n m (replicate m (eqn [] 0)) (drop (sparseNumbers n m) numbers) (drop (sparseWords m) words) (cleared (sparseNumbers n m) numbers) (cleared (sparseWords m) words)
+    → Drawn n m (replicate m (eqn [] 0)) (drop (rowNumbers n m) numbers) (drop (rowWords m) words) (cleared (rowNumbers n m) numbers) (cleared (rowWords m) words)
 unfolding cleared
 blank-drawn n m numbers words =
-    draw n m (replicate m (eqn [] 0)) (drop (sparseNumbers n m) numbers) (drop (sparseWords m) words) (cleared (sparseNumbers n m) numbers) (cleared (sparseWords m) words)
-    (blank-parts n m (drop (sparseNumbers n m) numbers))
+    draw n m (replicate m (eqn [] 0)) (drop (rowNumbers n m) numbers) (drop (rowWords m) words) (cleared (rowNumbers n m) numbers) (cleared (rowWords m) words)
+    (blank-parts n m (drop (rowNumbers n m) numbers))
     (ap (λ (l : List ℕ). l ++ drop m words) (sym (map-replicate constantOf m (eqn [] 0))))
     (each-replicate (λ e. Rising 0 n (e .vars)) m (eqn [] 0) tt) (length-replicate m (eqn [] 0))
 

@@ -5,7 +5,7 @@ use Prim.Native.Nat.{ℕ, zero, suc, _+_, _-_, _*_, _≤_, _<_}
 use lib.ListN.{length, getD, set, drop, replicate}
 use Rattle.areas.specs.Stretch.{stretch}
 use Rattle.areas.specs.Rows.{laid}
-use Rattle.answers.specs.Sizes.{sparseNumbers, sparseWords}
+use Rattle.answers.specs.Sizes.{rowNumbers, rowWords}
 use Rattle.gf2.specs.Equation.{Each, Equation, eqn, Rising, sum}
 
 -- ---- the picture
@@ -51,17 +51,17 @@ rowsOf n m numbers words = tab (slot n m numbers words) 0 m
 
 -- the areas hold m rows, whichever they are
 abbrev pub Held : ℕ → ℕ → List ℕ → List ℕ → Type 0
-Held n m numbers words = Drawn n m (rowsOf n m numbers words) (drop (sparseNumbers n m) numbers) (drop (sparseWords m) words) numbers words
+Held n m numbers words = Drawn n m (rowsOf n m numbers words) (drop (rowNumbers n m) numbers) (drop (rowWords m) words) numbers words
 
 -- .. and past the room they are rest and rest′
 pub record Kept (n m : ℕ) (rest rest′ numbers words : List ℕ) : Type 0 where
   pub held : Held n m numbers words
-  pub numbers-kept : drop (sparseNumbers n m) numbers ≡ rest
-  pub words-kept : drop (sparseWords m) words ≡ rest′
+  pub numbers-kept : drop (rowNumbers n m) numbers ≡ rest
+  pub words-kept : drop (rowWords m) words ≡ rest′
 
 -- the areas that held rows hold these rows now, and the rest is as it was
 abbrev pub Became : ℕ → ℕ → List ℕ → List ℕ → List Equation → List ℕ → List ℕ → Type 0
-Became n m numbers words rows numbers′ words′ = Drawn n m rows (drop (sparseNumbers n m) numbers) (drop (sparseWords m) words) numbers′ words′
+Became n m numbers words rows numbers′ words′ = Drawn n m rows (drop (rowNumbers n m) numbers) (drop (rowWords m) words) numbers′ words′
 
 -- ---- what the operations on rows leave
 

@@ -3,7 +3,7 @@ ghost use mathlib.Core.Path.{_≡_};
 ghost use Prim.Native.Nat.{_+_, _*_, _^_, _≤_, _<_};
 ghost use lib.ListN.{length, set};
 ghost use Rattle.areas.specs.Stretch.{cleared, zeroed};
-ghost use Rattle.answers.specs.Sizes.{maxVariables, sparseNumbers, sparseWords};
+ghost use Rattle.answers.specs.Sizes.{maxVariables, rowNumbers, rowWords};
 ghost use Rattle.gf2.specs.Equation.{eqn, Rising};
 ghost use Rattle.gf2.specs.Common.{common};
 ghost use Rattle.rows.specs.Padding.{PaddedRows};
@@ -13,9 +13,9 @@ mod front;
 
 // The room becomes zeros, which are `m` rows without variables; the remainder is untouched.
 pub fn clear(numbers: &mut [u32], words: &mut [u64], n: usize, m: usize)
-    requires { ⌜ (sparseNumbers n m ≤ length (now numbers)) × (sparseWords m ≤ length (now words)) ⌝ }
-    ensures { λ _. ⌜ now (numbers .exit) ≡ cleared (sparseNumbers n m) (now (numbers .entry)) ⌝ }
-    ensures { λ _. ⌜ now (words .exit) ≡ cleared (sparseWords m) (now (words .entry)) ⌝ }
+    requires { ⌜ (rowNumbers n m ≤ length (now numbers)) × (rowWords m ≤ length (now words)) ⌝ }
+    ensures { λ _. ⌜ now (numbers .exit) ≡ cleared (rowNumbers n m) (now (numbers .entry)) ⌝ }
+    ensures { λ _. ⌜ now (words .exit) ≡ cleared (rowWords m) (now (words .entry)) ⌝ }
 {
     areas::zero::zero_numbers(numbers, 0, m * n + n + m);
     areas::zero::zero_words(words, 0, m);
@@ -38,8 +38,8 @@ pub fn empty_rows(numbers: &mut [u32], at: usize, lengths: usize, n: usize, m: u
 // The room of areas that hold rows becomes zeros, as by `clear`: no more is written than the rows hold.
 pub fn empty(numbers: &mut [u32], words: &mut [u64], n: usize, m: usize)
     requires { ⌜ Held n m (now numbers) (now words) ⌝ }
-    ensures { λ _. ⌜ now (numbers .exit) ≡ cleared (sparseNumbers n m) (now (numbers .entry)) ⌝ }
-    ensures { λ _. ⌜ now (words .exit) ≡ cleared (sparseWords m) (now (words .entry)) ⌝ }
+    ensures { λ _. ⌜ now (numbers .exit) ≡ cleared (rowNumbers n m) (now (numbers .entry)) ⌝ }
+    ensures { λ _. ⌜ now (words .exit) ≡ cleared (rowWords m) (now (words .entry)) ⌝ }
 {
     let lens = m * n + n;
     empty_rows(numbers, 0, lens, n, m);

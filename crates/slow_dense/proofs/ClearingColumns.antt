@@ -6,6 +6,7 @@ use native.Mathlib.Numerals.{add-one}
 use native.Mathlib.Omega.{arith}
 use lib.ListN.{length, getD, set, take, drop, length-set, length-drop, length-append, length-map}
 use lib.Seq.{drop-cons, take-suc-set, drop-set-lt, append-snoc, take-at, drop-at, take-take, getD-take, getD-at, length-take-le}
+use Rattle.areas.proofs.Stretch.{drop-agree}
 use Rattle.gf2.specs.Equation.{Each}
 use Rattle.gf2.proofs.Each.{each-append}
 use Rattle.answers.specs.Sizes.{maxVariables}
@@ -90,7 +91,7 @@ pub record ClearingColumns (n m w : ℕ) (numbers₀ words₀ : List ℕ) (rank 
   pub numbers-room : m ≤ length numbers
   pub words-room : m * w + m ≤ length words
   pub numbers-long : length numbers ≡ length numbers₀
-  pub numbers-past : drop m numbers ≡ drop m numbers₀
+  pub numbers-past : drop rank numbers ≡ drop rank numbers₀
   pub words-long : length words ≡ length words₀
   pub words-past : drop (m * w + m) words ≡ drop (m * w + m) words₀
   pub pivots-below : Each (λ p. p < n) (take rank numbers)
@@ -192,7 +193,7 @@ module _ {n m w : ℕ} {numbers₀ words₀ : List ℕ} {rank col : ℕ} {number
         numbers-room = simp length-set (s .numbers-room);
         words-room = rw (a .long, b .long) (s .words-room);
         numbers-long = length-set numbers rank col ∙ s .numbers-long;
-        numbers-past = drop-set-lt m numbers rank col hr ∙ s .numbers-past;
+        numbers-past = drop-set-lt (rank + 1) numbers rank col (omega arith) ∙ drop-agree rank (rank + 1) numbers numbers₀ (omega arith) (s .numbers-past);
         words-long = a .long ∙ b .long ∙ s .words-long;
         words-past = a .past ∙ b .past ∙ s .words-past;
         pivots-below = rw pivots (each-append (λ p. p < n) (take rank numbers) (col ∷ []) (s .pivots-below) (h, tt));

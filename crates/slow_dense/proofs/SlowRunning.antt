@@ -6,7 +6,7 @@ use Prim.Native.Nat.{ℕ, _+_, _*_}
 use lib.ListN.{length, take, drop, replicate}
 use Rattle.gf2.specs.Result.{unsolvable, ok}
 use Rattle.areas.specs.Stretch.{zeroed, cleared}
-use Rattle.areas.proofs.Stretch.{cleared-same}
+use Rattle.areas.proofs.Stretch.{cleared-same, drop-agree}
 use Rattle.dense_rows.specs.Bits.{Row}
 use Rattle.dense_rows.specs.Rows.{rowsOf, held, Became}
 use Rattle.dense_walk.specs.Eliminate.{residue}
@@ -39,7 +39,7 @@ module _ (rows constants : List ℕ) {n m w : ℕ} {numbers words words₁ : Lis
   slow-solved r = ended ∙ end-solved n (pivotRows (take rank numbers₂) (take rank (held m w words₂))) (drop rank (held m w words₂)) r
 
   pub slow-numbers : cleared m numbers₂ ≡ cleared m numbers
-  slow-numbers = cleared-same m numbers₂ numbers (e .numbers-past)
+  slow-numbers = cleared-same m numbers₂ numbers (drop-agree rank m numbers₂ numbers (e .ranked) (e .numbers-past))
 
   pub slow-words : cleared (m * w + m) words₂ ≡ cleared (m * w + m) words
   slow-words = cleared-same (m * w + m) words₂ words (e .words-past ∙ l .past)

@@ -32,6 +32,6 @@ pub record ColumnsDone (n m w : ℕ) (numbers words : List ℕ) (rank : ℕ) (nu
   pub pivots-below : Each (λ p. p < n) (take rank numbers′)
   pub progress : clearColumns n 0 (untouched (held m w words)) ≡ progressIn m w rank numbers′ words′
   pub numbers-long : length numbers′ ≡ length numbers
-  pub numbers-past : drop m numbers′ ≡ drop m numbers
+  pub numbers-past : drop rank numbers′ ≡ drop rank numbers
   pub words-long : length words′ ≡ length words
   pub words-past : drop (m * w + m) words′ ≡ drop (m * w + m) words

@@ -1,5 +1,6 @@
 // A slow dense engine to trust: dense elimination without back substitution.
-ghost use mathlib.Core.Path.{_≡_};
+ghost use Rattle.answers.specs.Numbers.{numberOf, placeOf};
+ghost use Rattle.answers.specs.Told.{Tells};
 ghost use Rattle.slow_rules.specs.SlowCall.{slowCall};
 use answers::Answer;
 use answers::Rules;
@@ -18,10 +19,7 @@ pub fn slow_gaussian_elimination(
     numbers: &mut [u32],
     words: &mut [u64],
 ) -> Answer
-    ensures { λ r. ⌜ r ≡ slowCall n m w (now (rows .entry)) (now (constants .entry)) (now (solution .entry)) (now (numbers .entry)) (now (words .entry)) .answer ⌝ }
-    ensures { λ _. ⌜ now (solution .exit) ≡ slowCall n m w (now (rows .entry)) (now (constants .entry)) (now (solution .entry)) (now (numbers .entry)) (now (words .entry)) .solution ⌝ }
-    ensures { λ _. ⌜ now (numbers .exit) ≡ slowCall n m w (now (rows .entry)) (now (constants .entry)) (now (solution .entry)) (now (numbers .entry)) (now (words .entry)) .numbers ⌝ }
-    ensures { λ _. ⌜ now (words .exit) ≡ slowCall n m w (now (rows .entry)) (now (constants .entry)) (now (solution .entry)) (now (numbers .entry)) (now (words .entry)) .words ⌝ }
+    ensures { λ r. ⌜ Tells (slowCall n m w (now (rows .entry)) (now (constants .entry)) (now (solution .entry)) (now (numbers .entry)) (now (words .entry))) (numberOf r) (placeOf r) (now (solution .exit)) (now (numbers .exit)) (now (words .exit)) ⌝ }
 {
     if let Rules::Broken(answer) = dense::rules::check_rules(n, m, w, rows, constants) {
         return answer;

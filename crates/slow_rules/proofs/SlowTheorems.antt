@@ -1,6 +1,6 @@
 -- The slow dense engine answers as the dense one does, on every input.
 use mathlib.Core.Path.{_≡_, refl, sym, ap, ap₂, _∙_, subst}
-use mathlib.Core.Logic.{_↔_}
+use mathlib.Core.Logic.{_↔_, _≢_, _⊎_}
 use mathlib.Core.List.{List, [], _∷_}
 use mathlib.Core.Bool.{Bool, true, false}
 use Prim.Native.Nat.{ℕ, _*_, _<_, _≤_, _^_}
@@ -19,6 +19,8 @@ use Rattle.gf2.proofs.Elimination.{sum-twice}
 use Rattle.gf2.proofs.Canon.{canonical-from-rows, canonical-unique}
 use Rattle.gf2.proofs.OneValue.{zeros-at}
 use Rattle.gf2.proofs.Results.{Case, refused, gave, which}
+use Rattle.areas.specs.Stretch.{cleared}
+use Rattle.answers.specs.Numbers.{numberOf}
 use Rattle.answers.specs.Calls.{Call, solverCall}
 use Rattle.answers.specs.Sizes.{denseNumbers, denseWords}
 use Rattle.answers.specs.declared.Answer.the-variants.{Solved, Unsolvable}
@@ -33,8 +35,8 @@ use Rattle.dense_rows.proofs.StepLaws.{Wide}
 use Rattle.dense_walk.specs.Eliminate.{residue, denseElimination}
 use Rattle.dense_walk.proofs.RowTheorems.{sorted-rows, wide-good, residue-none, residue-some, rows-canonical, rows-cancel}
 use Rattle.dense.specs.Call.{denseRules, denseCall}
-use Rattle.dense.proofs.Lending.{admitted-by}
-use Rattle.dense.proofs.CallTheorems.{DenseLent, denseOn, denseSystem, DenseRuns, denseCall-solves, denseCall-exact, denseCall-canonical, denseCall-isolated, denseCall-narrow}
+use Rattle.dense.proofs.Lending.{dense-kept-sound}
+use Rattle.dense.proofs.CallTheorems.{DenseLent, denseOn, denseSystem, DenseRuns, denseCall-solves, denseCall-exact, denseCall-says, denseCall-canonical, denseCall-isolated, denseCall-narrow, denseCall-keeps, denseCall-untouched, denseCall-cleared}
 use Rattle.slow_rules.specs.Slow.{PivotRow, Progress, untouched, clearColumns, readOff, readEnd, slowElimination}
 use Rattle.slow_rules.specs.SlowCall.{slowCall}
 use Rattle.slow_rules.proofs.ColumnsCleared.{ClearedTo, columns-cleared, columns-ahead, columns-behind}
@@ -142,7 +144,7 @@ module _ (n w : ℕ) (rows : List Row) (wide : Each (Wide w) rows) (hn : n ≤ 6
 
 pub slow-same : (n m w : ℕ) (rows constants : List ℕ) → denseRules n m w rows constants ≡ Kept → slowElimination n (rowsOf m w rows constants) ≡ denseElimination n (rowsOf m w rows constants)
 slow-same n m w rows constants k =
-    let a = admitted-by n m w rows constants k in
+    let a = dense-kept-sound n m w rows constants k in
     slow-rows-same n w (rowsOf m w rows constants) (rows-wide m w rows constants (a .rows-there)) (a .columns-there)
 
 -- Answer, place, solution and both areas are those of the dense call, on every input.
@@ -174,9 +176,29 @@ slowCall-solves n l = rw (slowOn-same n l) (denseCall-solves n l)
 pub slowCall-exact : (n : ℕ) (l : DenseLent) → DenseRuns n l → (slowOn n l .answer ≡ Unsolvable) ↔ ((mask : List Bool) × Cancels mask (denseSystem n l))
 slowCall-exact n l = rw (slowOn-same n l) (denseCall-exact n l)
 
+-- a call that is not refused: 0, and n values that meet every equation; or 6, and some set of equations cancels
+pub slowCall-says : (n : ℕ) (l : DenseLent) → DenseRuns n l
+    → ((slowOn n l .answer ≡ Solved) × (length (slowOn n l .solution) ≡ n) × MeetsAll (slowOn n l .solution) (denseSystem n l))
+    ⊎ ((slowOn n l .answer ≡ Unsolvable) × ((mask : List Bool) × Cancels mask (denseSystem n l)))
+slowCall-says n l = rw (slowOn-same n l) (denseCall-says n l)
+
 pub slowCall-narrow : (n : ℕ) (l : DenseLent) (k : ℕ) → ((i : ℕ) → i < l .m → getD (l .constants) i 0 < 2 ^ k) → slowOn n l .answer ≡ Solved → (v : ℕ) → getD (slowOn n l .solution) v 0 < 2 ^ k
 slowCall-narrow n l = rw (slowOn-same n l) (denseCall-narrow n l)
 
 pub slowCall-isolated : (P : ℕ → Bool) (n : ℕ) (a b : DenseLent) → Apart P (denseSystem n a) → Apart P (denseSystem n b) → ourPart P (denseSystem n a) ≡ ourPart P (denseSystem n b)
     → slowOn n a .answer ≡ Solved → slowOn n b .answer ≡ Solved → (v : ℕ) → P v ≡ true → getD (slowOn n a .solution) v 0 ≡ getD (slowOn n b .solution) v 0
 slowCall-isolated P n a b = rw (slowOn-same n a, slowOn-same n b) (denseCall-isolated P n a b)
+
+-- every number but 0 keeps the solution as lent
+pub slowCall-keeps : (n : ℕ) (l : DenseLent) → slowOn n l .answer ≢ Solved → slowOn n l .solution ≡ l .solution
+slowCall-keeps n l = rw (slowOn-same n l) (denseCall-keeps n l)
+
+-- after 1 to 5 the work areas are untouched
+pub slowCall-untouched : (n : ℕ) (l : DenseLent) → 1 ≤ numberOf (slowOn n l .answer) → numberOf (slowOn n l .answer) ≤ 5
+    → (slowOn n l .numbers ≡ l .numbers) × (slowOn n l .words ≡ l .words)
+slowCall-untouched n l = rw (slowOn-same n l) (denseCall-untouched n l)
+
+-- after 0 and 6 the room part of each work area is zero and the remainder untouched
+pub slowCall-cleared : (n : ℕ) (l : DenseLent) → (slowOn n l .answer ≡ Solved) ⊎ (slowOn n l .answer ≡ Unsolvable)
+    → (slowOn n l .numbers ≡ cleared (denseNumbers (l .m)) (l .numbers)) × (slowOn n l .words ≡ cleared (denseWords (l .m) (l .w)) (l .words))
+slowCall-cleared n l = rw (slowOn-same n l) (denseCall-cleared n l)

@@ -9,7 +9,7 @@ use lib.ListN.{length, getD, set, take, drop, replicate, length-replicate}
 use lib.Seq.{length-take-le, drop-at, take-all, take-suc, set-at, getD-at}
 use Rattle.areas.specs.Stretch.{stretch, cleared}
 use Rattle.gf2.specs.Equation.{Equation, eqn, Rising}
-use Rattle.answers.specs.Sizes.{sparseNumbers, sparseWords}
+use Rattle.answers.specs.Sizes.{rowNumbers, rowWords}
 use Rattle.rows.specs.Picture.{Drawn, Held, Became, rowsOf, rowAt}
 use Rattle.rows.proofs.Holding.{rows-are, held, carried}
 use Rattle.rows.proofs.Loading.{blank-drawn}
@@ -32,15 +32,15 @@ unfolding cleared
 drop-cleared room l = drop-at (replicate room 0) (drop room l) room (length-replicate room 0)
 
 -- the loop begins where the room has been zeroed
-pub loading-begin : (n m : ℕ) (es : List Equation) (numbers words numbers′ words′ : List ℕ) → length es ≡ m → numbers′ ≡ cleared (sparseNumbers n m) numbers → words′ ≡ cleared (sparseWords m) words
-    → Loading n m es (drop (sparseNumbers n m) numbers′) (drop (sparseWords m) words′) numbers′ words′ 0
+pub loading-begin : (n m : ℕ) (es : List Equation) (numbers words numbers′ words′ : List ℕ) → length es ≡ m → numbers′ ≡ cleared (rowNumbers n m) numbers → words′ ≡ cleared (rowWords m) words
+    → Loading n m es (drop (rowNumbers n m) numbers′) (drop (rowWords m) words′) numbers′ words′ 0
 loading-begin n m es numbers words numbers′ words′ many a w =
     record {
-      drawn = subst (λ (r : List Equation). Drawn n m r (drop (sparseNumbers n m) numbers′) (drop (sparseWords m) words′) numbers′ words′)
+      drawn = subst (λ (r : List Equation). Drawn n m r (drop (rowNumbers n m) numbers′) (drop (rowWords m) words′) numbers′ words′)
           (ap (λ (k : ℕ). replicate k (eqn [] 0)) (sym (sub-zero m)))
-          (subst₂ (λ (x y : List ℕ). Drawn n m (replicate m (eqn [] 0)) (drop (sparseNumbers n m) x) (drop (sparseWords m) y) x y) (sym a) (sym w)
-          (subst₂ (λ (x y : List ℕ). Drawn n m (replicate m (eqn [] 0)) x y (cleared (sparseNumbers n m) numbers) (cleared (sparseWords m) words))
-          (sym (drop-cleared (sparseNumbers n m) numbers)) (sym (drop-cleared (sparseWords m) words)) (blank-drawn n m numbers words)));
+          (subst₂ (λ (x y : List ℕ). Drawn n m (replicate m (eqn [] 0)) (drop (rowNumbers n m) x) (drop (rowWords m) y) x y) (sym a) (sym w)
+          (subst₂ (λ (x y : List ℕ). Drawn n m (replicate m (eqn [] 0)) x y (cleared (rowNumbers n m) numbers) (cleared (rowWords m) words))
+          (sym (drop-cleared (rowNumbers n m) numbers)) (sym (drop-cleared (rowWords m) words)) (blank-drawn n m numbers words)));
       within = omega arith;
       many = many;
     }
@@ -97,8 +97,8 @@ unfolding equationAt stretch
 equation-rising f i h = f .rising i h
 
 -- past the room nothing was written, not even where it was zeroed
-pub loaded-all : {n m : ℕ} {es : List Equation} (numbers₀ words₀ : List ℕ) {rest rest′ numbers words : List ℕ} → rest ≡ cleared (sparseNumbers n m) numbers₀ → rest′ ≡ cleared (sparseWords m) words₀
-    → Drawn n m es (drop (sparseNumbers n m) rest) (drop (sparseWords m) rest′) numbers words → Became n m numbers₀ words₀ es numbers words
+pub loaded-all : {n m : ℕ} {es : List Equation} (numbers₀ words₀ : List ℕ) {rest rest′ numbers words : List ℕ} → rest ≡ cleared (rowNumbers n m) numbers₀ → rest′ ≡ cleared (rowWords m) words₀
+    → Drawn n m es (drop (rowNumbers n m) rest) (drop (rowWords m) rest′) numbers words → Became n m numbers₀ words₀ es numbers words
 loaded-all {n} {m} {es} numbers₀ words₀ {rest} {rest′} {numbers} {words} a w d =
     subst₂ (λ (x y : List ℕ). Drawn n m es x y numbers words)
-    (ap (drop (sparseNumbers n m)) a ∙ drop-cleared (sparseNumbers n m) numbers₀) (ap (drop (sparseWords m)) w ∙ drop-cleared (sparseWords m) words₀) d
+    (ap (drop (rowNumbers n m)) a ∙ drop-cleared (rowNumbers n m) numbers₀) (ap (drop (rowWords m)) w ∙ drop-cleared (rowWords m) words₀) d

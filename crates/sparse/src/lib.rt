@@ -3,7 +3,9 @@ use answers::Answer;
 use answers::Built;
 use answers::Rules;
 ghost use mathlib.Core.Path.{_≡_};
+ghost use Rattle.answers.specs.Numbers.{numberOf, placeOf};
 ghost use Rattle.answers.specs.Reported.{reported};
+ghost use Rattle.answers.specs.Told.{Tells};
 ghost use Rattle.system.specs.System.{equations};
 ghost use Rattle.sparse_rules.specs.SparseCall.{sparseCall};
 ghost use Rattle.sparse_rules.specs.Cancelled.{sparseCancels};
@@ -22,10 +24,7 @@ pub fn gaussian_elimination(
     numbers: &mut [u32],
     words: &mut [u64],
 ) -> Built
-    ensures { λ r. ⌜ r .answer ≡ sparseCall n m (now (starts .entry)) (now (vars .entry)) (now (constants .entry)) (now (solution .entry)) (now (numbers .entry)) (now (words .entry)) .answer ⌝ }
-    ensures { λ _. ⌜ now (solution .exit) ≡ sparseCall n m (now (starts .entry)) (now (vars .entry)) (now (constants .entry)) (now (solution .entry)) (now (numbers .entry)) (now (words .entry)) .solution ⌝ }
-    ensures { λ _. ⌜ now (numbers .exit) ≡ sparseCall n m (now (starts .entry)) (now (vars .entry)) (now (constants .entry)) (now (solution .entry)) (now (numbers .entry)) (now (words .entry)) .numbers ⌝ }
-    ensures { λ _. ⌜ now (words .exit) ≡ sparseCall n m (now (starts .entry)) (now (vars .entry)) (now (constants .entry)) (now (solution .entry)) (now (numbers .entry)) (now (words .entry)) .words ⌝ }
+    ensures { λ r. ⌜ Tells (sparseCall n m (now (starts .entry)) (now (vars .entry)) (now (constants .entry)) (now (solution .entry)) (now (numbers .entry)) (now (words .entry))) (numberOf (r .answer)) (placeOf (r .answer)) (now (solution .exit)) (now (numbers .exit)) (now (words .exit)) ⌝ }
     ensures { λ r. ⌜ r .cancelled ≡ reported (sparseCall n m (now (starts .entry)) (now (vars .entry)) (now (constants .entry)) (now (solution .entry)) (now (numbers .entry)) (now (words .entry)) .answer) (sparseCancels (equations m (now (starts .entry)) (now (vars .entry)) (now (constants .entry)))) ⌝ }
 {
     match system::rules(n, m, starts, vars, constants) {

@@ -1,7 +1,7 @@
 // The lent system as rows of the areas.
 ghost use Prim.Native.Nat.{_≤_};
 ghost use lib.ListN.{length};
-ghost use Rattle.answers.specs.Sizes.{sparseNumbers, sparseWords};
+ghost use Rattle.answers.specs.Sizes.{rowNumbers, rowWords};
 ghost use Rattle.rows.specs.Picture.{Became};
 ghost use Rattle.system.specs.System.{equations};
 ghost use Rattle.system.specs.Fits.{Fits};
@@ -16,7 +16,7 @@ pub fn load(
     numbers: &mut [u32],
     words: &mut [u64],
 )
-    requires { ⌜ Fits n m (now starts) (now vars) (now constants) × (sparseNumbers n m ≤ length (now numbers)) × (sparseWords m ≤ length (now words)) ⌝ }
+    requires { ⌜ Fits n m (now starts) (now vars) (now constants) × (rowNumbers n m ≤ length (now numbers)) × (rowWords m ≤ length (now words)) ⌝ }
     ensures { λ _. ⌜ Became n m (now (numbers .entry)) (now (words .entry)) (equations m (now (starts .entry)) (now (vars .entry)) (now (constants .entry))) (now (numbers .exit)) (now (words .exit)) ⌝ }
 {
     rows::clear(numbers, words, n, m);

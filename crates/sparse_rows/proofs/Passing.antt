@@ -7,7 +7,7 @@ use native.Mathlib.Omega.{arith}
 use lib.ListN.{length, getD, set, drop}
 use lib.Seq.{getD-set-same, getD-set-other}
 use Rattle.gf2.specs.Equation.{Equation, eqn}
-use Rattle.answers.specs.Sizes.{sparseNumbers, sparseWords}
+use Rattle.answers.specs.Sizes.{rowNumbers, rowWords}
 use Rattle.rows.specs.Picture.{Held, Became, rowsOf, rowAt, swapped}
 use Rattle.rows.proofs.Holding.{row-narrow, row-first, held}
 use Rattle.sparse_rules.specs.Eliminate.{meeting}
@@ -21,7 +21,7 @@ use Rattle.sparse_rows.proofs.Ahead.{apart-cost, ahead-turn}
 
 -- u is what row i begins with; row i has met the rows from j up to k, without a sum, and where k is j, nothing was written
 pub record Passing (n m d i j : ℕ) (numbers₀ words₀ numbers words : List ℕ) (u k : ℕ) : Type 0 where
-  pub stands : StandsAt n m d i (meetLoop (d - j) i j (rowsOf n m numbers₀ words₀)) (drop (sparseNumbers n m) numbers₀) (drop (sparseWords m) words₀) numbers words k
+  pub stands : StandsAt n m d i (meetLoop (d - j) i j (rowsOf n m numbers₀ words₀)) (drop (rowNumbers n m) numbers₀) (drop (rowWords m) words₀) numbers words k
   pub first : u ≡ getD numbers (i * n) 0
   pub from : j ≤ k
   pub still : k ≡ j → numbers ≡ numbers₀

@@ -6,7 +6,7 @@ use Prim.Native.Nat.{ℕ, _+_, _-_, _*_, _≤_, _<_}
 use lib.ListN.{length, getD, set, take, drop}
 use Rattle.gf2.specs.Equation.{Equation}
 use Rattle.gf2.specs.Result.{Result, unsolvable, ok}
-use Rattle.answers.specs.Sizes.{sparseNumbers, sparseWords}
+use Rattle.answers.specs.Sizes.{rowNumbers, rowWords}
 use Rattle.rows.specs.Picture.{Drawn, Kept, rowsOf, rowAt}
 use Rattle.sparse_rules.specs.Eliminate.{Meeting, clash, identity, both, meeting}
 use Rattle.sparse_rows.specs.Loop.{meetLoop, StandsAt}
@@ -45,14 +45,14 @@ pub record Passes (n m d i j : ℕ) (numbers words numbers′ words′ : List �
   pub from : j ≤ r
   pub still : r ≡ j → numbers′ ≡ numbers
   pub alike : r < d → Alike n m i r numbers′
-  pub stands : StandsAt n m d i (meetLoop (d - j) i j (rowsOf n m numbers words)) (drop (sparseNumbers n m) numbers) (drop (sparseWords m) words) numbers′ words′ r
+  pub stands : StandsAt n m d i (meetLoop (d - j) i j (rowsOf n m numbers words)) (drop (rowNumbers n m) numbers) (drop (rowWords m) words) numbers′ words′ r
 
 abbrev pub MeetsRows : (Equation → Equation → Meeting) → ℕ → ℕ → ℕ → ℕ → List ℕ → List ℕ → List ℕ → List ℕ → Met → Type 0
 MeetsRows f n m i j numbers words numbers′ words′ r =
-    MetBy n m i j (rowsOf n m numbers words) (drop (sparseNumbers n m) numbers) (drop (sparseWords m) words)
+    MetBy n m i j (rowsOf n m numbers words) (drop (rowNumbers n m) numbers) (drop (rowWords m) words)
     (f (rowAt (rowsOf n m numbers words) i) (rowAt (rowsOf n m numbers words) j)) numbers′ words′ r
 
 abbrev pub Reduces : (List Equation → Result (List Equation)) → ℕ → ℕ → ℕ → List ℕ → List ℕ → List ℕ → List ℕ → Reduction → Type 0
 Reduces f n m d numbers words numbers′ words′ r =
-    ReducedBy n m d (rowsOf n m numbers words) (drop (sparseNumbers n m) numbers) (drop (sparseWords m) words)
+    ReducedBy n m d (rowsOf n m numbers words) (drop (rowNumbers n m) numbers) (drop (rowWords m) words)
     (f (take d (rowsOf n m numbers words))) numbers′ words′ r

@@ -2,7 +2,7 @@
 ghost use mathlib.Core.Path.{_≡_};
 ghost use Prim.Native.Nat.{_≤_};
 ghost use lib.ListN.{length, take, drop};
-ghost use Rattle.answers.specs.Sizes.{maxVariables, maxEquations, sparseNumbers, sparseWords};
+ghost use Rattle.answers.specs.Sizes.{maxVariables, maxEquations, rowNumbers, rowWords};
 ghost use Rattle.rows.specs.Picture.{Held, Kept, rowsOf};
 ghost use Rattle.sparse_rules.specs.Eliminate.{gaussianElimination};
 ghost use Rattle.sparse_rules.specs.Cancelled.{sparseCancels};
@@ -21,7 +21,7 @@ pub fn solve_rows(
 ) -> Counted
     requires { ⌜ Held n m (now numbers) (now words) × (d ≤ m) × (n ≤ maxVariables) × (length (now solution) ≡ n) × (m ≤ maxEquations) ⌝ }
     ensures { λ r. ⌜ FinishedBy (gaussianElimination n (take d (rowsOf n m (now (numbers .entry)) (now (words .entry))))) (now (solution .entry)) (now (solution .exit)) (r .end) ⌝ }
-    ensures { λ _. ⌜ Kept n m (drop (sparseNumbers n m) (now (numbers .entry))) (drop (sparseWords m) (now (words .entry))) (now (numbers .exit)) (now (words .exit)) ⌝ }
+    ensures { λ _. ⌜ Kept n m (drop (rowNumbers n m) (now (numbers .entry))) (drop (rowWords m) (now (words .entry))) (now (numbers .exit)) (now (words .exit)) ⌝ }
     ensures { λ r. ⌜ r .cancelled ≡ sparseCancels (take d (rowsOf n m (now (numbers .entry)) (now (words .entry)))) ⌝ }
 {
     let form = crate::echelon::echelon_form(numbers, words, n, m, d);

@@ -104,9 +104,6 @@ module _ (r : Equation) (v : ℕ) (s : Equation) where
   pub summed-swap : length (r .vars) ≢ 0 → v < getD (r .vars) 0 0 → summed r v s ≡ both s r
   summed-swap f h = falls (r .vars) (r .c) v s f h
 
-  pub summed-stay : length (r .vars) ≢ 0 → getD (r .vars) 0 0 ≤ v → summed r v s ≡ both r s
-  summed-stay f h = holds (r .vars) (r .c) v s f h
-
 -- ---- a row that no values meet, and a row that pins its first variable
 
 blank-row : (vs : List ℕ) (c : ℕ) (rest : List Equation) → length vs ≡ 0 → c ≡ 0 → contradicted (eqn vs c ∷ rest) ≡ contradicted rest

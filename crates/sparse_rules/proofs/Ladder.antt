@@ -7,50 +7,44 @@ use Prim.Native.Nat.{ℕ, _≤_, _<_}
 use lib.ListN.{length}
 use lib.Dec.{eqb, leb}
 use borrow.Author.Tests.{eq-eqb, ne-eqb, le-leb, lt-leb}
-use Rattle.answers.specs.Calls.{ran}
+use Rattle.answers.specs.Calls.{Call, ran}
 use Rattle.answers.specs.Sizes.{sparseNumbers, sparseWords}
 use Rattle.answers.specs.declared.Answer.{Answer}
 use Rattle.answers.specs.declared.Answer.the-variants.{WrongSolution, ShortArea}
 use Rattle.answers.specs.declared.Rules.the-variants.{Kept, Broken}
+use Rattle.answers.proofs.Told.{Says}
 use Rattle.system.specs.System.{systemRules, equations}
 use Rattle.sparse_rules.specs.Eliminate.{gaussianElimination}
 use Rattle.sparse_rules.specs.SparseCall.{sparseCall}
 
 module _ (n m : ℕ) (starts vars constants solution numbers words : List ℕ) where
-  -- the answer and the lent cells are those of the call
-  abbrev Says : Answer → List ℕ → List ℕ → List ℕ → Type 0
-  Says answer solution′ numbers′ words′ =
-      (answer ≡ sparseCall n m starts vars constants solution numbers words .answer)
-      × ((solution′ ≡ sparseCall n m starts vars constants solution numbers words .solution)
-      × ((numbers′ ≡ sparseCall n m starts vars constants solution numbers words .numbers) × (words′ ≡ sparseCall n m starts vars constants solution numbers words .words)))
+  abbrev call : Call
+  call = sparseCall n m starts vars constants solution numbers words
 
-  pub call-broken : (answer : Answer) → systemRules n m starts vars constants ≡ Broken answer → Says answer solution numbers words
+  pub call-broken : (answer : Answer) → systemRules n m starts vars constants ≡ Broken answer → Says call answer solution numbers words
   unfolding sparseCall
   call-broken answer e = simp e (refl, (refl, (refl, refl)))
 
   module _ (kept : systemRules n m starts vars constants ≡ Kept) where
-    pub call-wrong : length solution ≢ n → Says WrongSolution solution numbers words
+    pub call-wrong : length solution ≢ n → Says call WrongSolution solution numbers words
     unfolding sparseCall
     call-wrong ne = simp (kept, ne-eqb (length solution) n ne) (refl, (refl, (refl, refl)))
 
     module _ (long : length solution ≡ n) where
-      pub call-short-numbers : length numbers < sparseNumbers n m → Says ShortArea solution numbers words
+      pub call-short-numbers : length numbers < sparseNumbers n m → Says call ShortArea solution numbers words
       unfolding sparseCall
       call-short-numbers h = simp (kept, eq-eqb (length solution) n long, lt-leb (sparseNumbers n m) (length numbers) h) (refl, (refl, (refl, refl)))
 
       module _ (room : sparseNumbers n m ≤ length numbers) where
-        pub call-short-words : length words < m → Says ShortArea solution numbers words
+        pub call-short-words : length words < m → Says call ShortArea solution numbers words
         unfolding sparseCall
         call-short-words h =
             simp (kept, eq-eqb (length solution) n long, le-leb (sparseNumbers n m) (length numbers) room, lt-leb m (length words) h) (refl, (refl, (refl, refl)))
 
         -- the run that is not refused
         pub call-run : m ≤ length words → (answer : Answer) (solution′ numbers′ words′ : List ℕ)
-            → (answer ≡ ran (sparseNumbers n m) (sparseWords m) (gaussianElimination n (equations m starts vars constants)) solution numbers words .answer)
-            × ((solution′ ≡ ran (sparseNumbers n m) (sparseWords m) (gaussianElimination n (equations m starts vars constants)) solution numbers words .solution)
-            × ((numbers′ ≡ ran (sparseNumbers n m) (sparseWords m) (gaussianElimination n (equations m starts vars constants)) solution numbers words .numbers)
-            × (words′ ≡ ran (sparseNumbers n m) (sparseWords m) (gaussianElimination n (equations m starts vars constants)) solution numbers words .words)))
-            → Says answer solution′ numbers′ words′
+            → Says (ran (sparseNumbers n m) (sparseWords m) (gaussianElimination n (equations m starts vars constants)) solution numbers words) answer solution′ numbers′ words′
+            → Says call answer solution′ numbers′ words′
         unfolding sparseCall
         call-run h answer solution′ numbers′ words′ e =
             simp (kept, eq-eqb (length solution) n long, le-leb (sparseNumbers n m) (length numbers) room, le-leb m (length words) h) e

@@ -8,3 +8,4 @@ pub mod RandomExamples
 pub mod Cases
 pub mod Ladder
 pub mod CallTheorems
+pub mod CallExamples

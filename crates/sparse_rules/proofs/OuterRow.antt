@@ -193,14 +193,6 @@ outerRow-rising n k rows rows′ h e = rising-both n rows′ (l .rising s) (l .s
     l : Like rows rows′
     l = outerRow-like k rows rows′ s e
 
--- rows in order get one more in order
-pub outerRow-echelon : (k : ℕ) (rows rows′ : List Equation) → Sorted rows → Echelon k rows → outerRow k rows ≡ ok rows′ → Echelon (suc k) rows′
-outerRow-echelon k rows rows′ s h e = go (outerRow-met rows k s) e
-  where
-    go : {res : Result (List Equation)} → RoundMet k rows res → res ≡ ok rows′ → Echelon (suc k) rows′
-    go (round-clash c) q = absurd (unsolvable≢ok q)
-    go (round-met a l f) q = subst (Echelon (suc k)) (ok-same q) (f h)
-
 -- ---- every row but the last
 
 -- all rows but the last are done

@@ -12,6 +12,9 @@ use denote.Struct.Laws as LL
 use denote.Enum.Laws as EL
 use denote.Triple.Clauses.{Clauses, closing}
 use Rattle.walk_rules.proofs.Walk.{_≡_, refl, ap, ℕ, List, [], _∷_, length, URA, fullShare, named, imm, mut, w32, tyInt, tyRef, Val, vptr, SProp, ent, emp, via, fst∗, snd∗, exE, id⊢, Lft, GName, Share, Fml, ftrue, fat, flft, fobs, fbor, Routine, Heap, Calls, Loops, WpFn, Tables, Atoms, sem, fact, givenOf, tables, tablesOf, Given, ‵, raw, _⊛_, some, later, ⋆, _$_, _∵_, !, qed, by, move, keep, let-go, use1, use2, split, join, pick, rewrite, fsplit, fsplit3, fjoin, fjoin3, feqI, suffices, frame, await, done, whole, sub, look-in, look, look-raw, store-raw, init, forget, stop, hop, fld, from, load, of-opd, and-then, no-more, assigns, land, returns, enter, alloc1, alloc0, params1, pass1, pass0, free1, free0, Body, FmC, fmOf, WpFn-mono, yes, owns, mem, Is, shows, u32, RefT, MutRef, now, ptr-vals, mut-tells, plain, sliceTy, sliceVal, ShrSlice, Room, slice-vals, shr-slice-tells, shr-slice-copy, only, opens, closes, owned, peeks, facts, heard, nothing, spelt, Contract, Triple, calls-at, ensured, lasts, Vals, onEntry, Meets, tripleOf, entered, cited, says, Stays, stay-ref, stay-none-slice, walkOf, Walks, ends-at, walked, goes-ref, goes-none-slice, walk-meets}
+use mathlib.Core.Path.{sym, subst}
+use mathlib.Core.Bool.{Bool}
+use Rattle.stack_steps.specs.Stacks.{PopAnswer}
 use Rattle.stack_steps.specs.declared.Head.{Head}
 use Rattle.stack_steps.specs.declared.PopStep.{PopStep}
 use Rattle.stack_steps.proofs.Head as T
@@ -38,12 +41,12 @@ popping #callee = record {
 abbrev stayed : Stays (self.ended .signature .params) (self.ended .kept)
 stayed = (stay-ref (0 ∷ []) tt (plain (λ _. T.the-row)), (stay-none-slice (1 ∷ []) tt (plain (λ _. u32)) yes, tt))
 
-module _ (pop : List ℕ → Head → PopStep) where
+module _ (pop : List ℕ → Head → PopStep) (fits : List ℕ → Head → Bool) (top : List ℕ → Head → List ℕ) (numbers : (s : List ℕ) (h : Head) → PopAnswer (fits s h) (top s h) (pop s h .got)) where
   abbrev lent-says : {M : Type 1} (𝓤 : URA M) → Clauses 𝓤 self.ended
   lent-says 𝓤 κs a = record {
     ghost = Unit {0};
     requires = λ _. emp 𝓤;
-    ensures = λ _ r e. fact 𝓤 ((r ≡ pop (now (a .1 .0)) (now (a .0)) .got) × (now (e .0) ≡ pop (now (a .1 .0)) (now (a .0)) .head));
+    ensures = λ _ r e. fact 𝓤 ((r ≡ pop (now (a .1 .0)) (now (a .0)) .got) × (now (e .0) ≡ pop (now (a .1 .0)) (now (a .0)) .head) × PopAnswer (fits (now (a .1 .0)) (now (a .0))) (top (now (a .1 .0)) (now (a .0))) r);
   }
 
   abbrev step-says : {M : Type 1} (𝓤 : URA M) → Clauses 𝓤 callee.ended
@@ -96,7 +99,7 @@ module _ (pop : List ℕ → Head → PopStep) where
       exits r v is e =
           qed W (‵ (fobs γ (T.the-row .coded .code (r .head))) ∷ ‵ (fbor κ (Body (mem T.the-row) b o γ)) ∷ ‵ (flft κ q) ∷ (‵ (flft κ′ q′) ⊛ ‵ ftrue) ∷ ‵ Own ∷ []) ∵
           suffices ! _ (ends-at 𝓤 H A self.ended stayed (lent-says 𝓤) W (((κ, (κ′, tt)), (q, (q′, tt)), tt, a, vals), tt) v (r .got) (r .head, (tt, tt)) (tt, (tt, tt))) $
-          says ! (ap (λ (p : PopStep). p .got) e, ap (λ (p : PopStep). p .head) e) $
+          says ! (ap (λ (p : PopStep). p .got) e, ap (λ (p : PopStep). p .head) e, subst (λ (p : PopStep). PopAnswer (fits ys h) (top ys h) (p .got)) (sym e) (numbers ys h)) $
           move ! (2 ∷ 3 ∷ []) $ join ! $ frame ! $ feqI ! (List Val) (vptr b o ∷ []) (vptr b o ∷ []) refl $ fjoin3 ! $
           nothing ! $ move ! (2 ∷ 0 ∷ []) $ fjoin ! $ move ! (1 ∷ 0 ∷ []) $ fjoin ! $ frame ! $ owned ! S.the-row (Is S.the-row) (EL.makes S.the-type S′.the-plain 𝓤 H A) (r .got) _ is $ done !
 

@@ -12,6 +12,9 @@ use denote.Struct.Laws as LL
 use denote.Enum.Laws as EL
 use denote.Triple.Clauses.{Clauses, closing}
 use Rattle.walk_rules.proofs.Walk.{_≡_, refl, ap, ℕ, List, [], _∷_, length, URA, fullShare, named, erased, mut, w32, tyInt, tyRef, Val, vptr, SProp, ent, emp, via, fst∗, id⊢, Lft, GName, Share, ftrue, fat, flft, fobs, fbor, Routine, Heap, Calls, Loops, WpFn, Tables, Atoms, fact, givenOf, tables, tablesOf, Given, ‵, raw, _⊛_, some, later, ⋆, _$_, _∵_, !, qed, by, move, keep, let-go, use1, use2, split, join, pick, rewrite, fsplit, fsplit3, fjoin, fjoin3, feqL, feqI, suffices, frame, await, done, agg, whole, sub, look-in, look, look-raw, store-raw, init, forget, stop, hop, fld, from, load, addr, of-opd, and-then, no-more, assigns, land, returns, enter, alloc1, alloc0, params1, pass1, pass0, free1, free0, Body, FmC, fmOf, WpFn-mono, yes, owns, mem, Is, shows, u32, RefT, MutRef, now, ptr-vals, mut-tells, plain, sliceTy, sliceVal, MutSlice, Room, finally, slice-vals, mut-slice-tells, only, opens, closes, owned, peeks, facts, heard, nothing, spelt, Contract, Triple, calls-at, ensured, lasts, Vals, onEntry, Meets, tripleOf, entered, cited, says, Stays, stay-ref, gave-slice, stay-none, walkOf, Walks, ends-at, walked, goes-ref, goes-gave-slice, goes-none, walk-meets}
+use mathlib.Core.Path.{sym, subst}
+use mathlib.Core.Bool.{Bool}
+use Rattle.peeling.specs.GraphCalls.{DomainAnswer}
 use Rattle.stack_steps.specs.Stacks.{PushCall}
 use Rattle.peeling.specs.declared.numbers.Vertex.{Vertex}
 use Rattle.stack_steps.specs.declared.Head.{Head}
@@ -45,12 +48,12 @@ pushing #callee = record {
 abbrev stayed : Stays (self.ended .signature .params) (self.ended .kept)
 stayed = (stay-ref (0 ∷ []) tt (plain (λ _. T.the-row)), (gave-slice (1 ∷ []) tt (plain (λ _. u32)), (stay-none (λ _. N.the-row) yes, tt)))
 
-module _ (push : List ℕ → Head → ℕ → PushCall) where
+module _ (push : List ℕ → Head → ℕ → PushCall) (room : List ℕ → Head → Bool) (numbers : (s : List ℕ) (h : Head) (v : ℕ) → DomainAnswer (room s h) (push s h v .result .answer)) where
   abbrev lent-says : {M : Type 1} (𝓤 : URA M) → Clauses 𝓤 self.ended
   lent-says 𝓤 κs a = record {
     ghost = Unit {0};
     requires = λ _. emp 𝓤;
-    ensures = λ _ r e. fact 𝓤 ((r ≡ push (now (a .1 .0)) (now (a .0)) (a .1 .1 .0 .0) .result .answer) × (now (e .0) ≡ push (now (a .1 .0)) (now (a .0)) (a .1 .1 .0 .0) .result .head) × (now (e .1 .0) ≡ push (now (a .1 .0)) (now (a .0)) (a .1 .1 .0 .0) .stack));
+    ensures = λ _ r e. fact 𝓤 ((r ≡ push (now (a .1 .0)) (now (a .0)) (a .1 .1 .0 .0) .result .answer) × (now (e .0) ≡ push (now (a .1 .0)) (now (a .0)) (a .1 .1 .0 .0) .result .head) × (now (e .1 .0) ≡ push (now (a .1 .0)) (now (a .0)) (a .1 .1 .0 .0) .stack) × DomainAnswer (room (now (a .1 .0)) (now (a .0))) r);
   }
 
   abbrev step-says : {M : Type 1} (𝓤 : URA M) → Clauses 𝓤 callee.ended
@@ -106,7 +109,7 @@ module _ (push : List ℕ → Head → ℕ → PushCall) where
       exits r zs w is e l =
           qed W (‵ (fobs γ (T.the-row .coded .code (r .head))) ∷ ‵ (fbor κ (Body (mem T.the-row) b o γ)) ∷ ‵ (flft κ q) ∷ (‵ (flft κ′ q′) ⊛ ‵ ftrue) ∷ ‵ (finally u32 γ′ zs) ∷ []) ∵
           suffices ! _ (ends-at 𝓤 H A self.ended stayed (lent-says 𝓤) W (((κ, (κ′, tt)), (q, (q′, tt)), tt, a, vals), tt) w (r .answer) (r .head, (zs, (tt, tt))) (tt, (l, (tt, tt)))) $
-          says ! (ap (λ (p : Pushed). p .answer) (e .0), ap (λ (p : Pushed). p .head) (e .0), e .1) $
+          says ! (ap (λ (p : Pushed). p .answer) (e .0), ap (λ (p : Pushed). p .head) (e .0), e .1, subst (λ (p : Pushed). DomainAnswer (room ys h) (p .answer)) (sym (e .0)) (numbers ys h (v .0))) $
           move ! (2 ∷ 3 ∷ []) $ join ! $ frame ! $ feqI ! (List Val) (vptr b o ∷ []) (vptr b o ∷ []) refl $ fjoin3 ! $
           nothing ! $ owned ! N.the-row (Is N.the-row) (LL.makes N.the-type N′.the-plain 𝓤 H A) v _ v-is $ fjoin ! $ move ! (2 ∷ 0 ∷ []) $ fjoin ! $ move ! (1 ∷ 0 ∷ []) $ fjoin ! $ frame ! $
           owned ! S.the-row (Is S.the-row) (EL.makes S.the-type S′.the-plain 𝓤 H A) (r .answer) _ is $ done !

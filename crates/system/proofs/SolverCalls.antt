@@ -1,6 +1,6 @@
 -- What a solver's call on a lent system answers, from what its run answers: once for every solver of such systems.
 use mathlib.Core.Path.{_≡_, ap}
-use mathlib.Core.Logic.{_↔_}
+use mathlib.Core.Logic.{_↔_, _⊎_, inl, inr}
 use mathlib.Core.Bool.{Bool, true}
 use mathlib.Core.List.{List}
 use Prim.Native.Nat.{ℕ, _<_, _^_}
@@ -11,7 +11,7 @@ use Rattle.gf2.specs.Ours.{Apart, ourPart}
 use Rattle.gf2.specs.Result.{Result, unsolvable, ok}
 use Rattle.answers.specs.Calls.{Call, solverCall}
 use Rattle.answers.specs.declared.Answer.the-variants.{Solved, Unsolvable}
-use Rattle.answers.proofs.Calls.{Admitted, solved-call, unsolvable-call, none-call}
+use Rattle.answers.proofs.Calls.{Admitted, call-two, solved-call, unsolvable-call, none-call}
 use Rattle.system.specs.System.{systemRules, equations}
 use Rattle.system.specs.Fits.{Fits}
 use Rattle.system.proofs.Soundness.{kept-sound, rules-early}
@@ -29,6 +29,12 @@ pub record Lent : Type 0 where
 abbrev pub system : Lent → List Equation
 system l = equations (l .m) (l .starts) (l .vars) (l .constants)
 
+-- a call that asks for this room comes to its run: no refusal from 1 to 5
+abbrev pub Runs : (ℕ → ℕ → ℕ → ℕ) → (ℕ → ℕ → ℕ → ℕ) → ℕ → Lent → Type 0
+Runs kn kw n l =
+    Admitted n (kn n (l .m) (length (l .vars))) (kw n (l .m) (length (l .vars))) (l .solution) (l .numbers) (l .words)
+    (systemRules n (l .m) (l .starts) (l .vars) (l .constants))
+
 -- a run with these answers, and the room that its call asks for
 module _ (run : ℕ → List Equation → Result (List ℕ)) (kn kw : ℕ → ℕ → ℕ → ℕ)
     (solves : (n : ℕ) (es : List Equation) → Sorted es → Below n es → (x : List ℕ) → run n es ≡ ok x → (length x ≡ n) × MeetsAll x es)
@@ -40,12 +46,6 @@ module _ (run : ℕ → List Equation → Result (List ℕ)) (kn kw : ℕ → �
   call n l =
       solverCall (systemRules n (l .m) (l .starts) (l .vars) (l .constants)) n (kn n (l .m) (length (l .vars))) (kw n (l .m) (length (l .vars))) (run n (system l))
       (l .solution) (l .numbers) (l .words)
-
-  -- the call comes to its run: no refusal from 1 to 5
-  abbrev pub Runs : ℕ → Lent → Type 0
-  Runs n l =
-      Admitted n (kn n (l .m) (length (l .vars))) (kw n (l .m) (length (l .vars))) (run n (system l)) (l .solution) (l .numbers) (l .words)
-      (systemRules n (l .m) (l .starts) (l .vars) (l .constants))
 
   -- the lent system keeps its rules, and the run has what the solution slice holds
   pub solved : (n : ℕ) (l : Lent) → call n l .answer ≡ Solved → Fits n (l .m) (l .starts) (l .vars) (l .constants) × (run n (system l) ≡ ok (call n l .solution))
@@ -59,7 +59,7 @@ module _ (run : ℕ → List Equation → Result (List ℕ)) (kn kw : ℕ → �
   call-solves n l e = let s = solved n l e in solves n (system l) (s .0 .sorted) (s .0 .below) (call n l .solution) (s .1)
 
   -- 6 exactly if some set of equations cancels
-  pub call-exact : (n : ℕ) (l : Lent) → Runs n l → (call n l .answer ≡ Unsolvable) ↔ ((mask : List Bool) × Cancels mask (system l))
+  pub call-exact : (n : ℕ) (l : Lent) → Runs kn kw n l → (call n l .answer ≡ Unsolvable) ↔ ((mask : List Bool) × Cancels mask (system l))
   call-exact n l a = (forth, back)
     where
       fits : Fits n (l .m) (l .starts) (l .vars) (l .constants)
@@ -76,6 +76,20 @@ module _ (run : ℕ → List Equation → Result (List ℕ)) (kn kw : ℕ → �
           ap (λ (r : Call). r .answer)
           (none-call n (kn n (l .m) (length (l .vars))) (kw n (l .m) (length (l .vars))) (run n (system l)) (l .solution) (l .numbers) (l .words)
           (systemRules n (l .m) (l .starts) (l .vars) (l .constants)) a (exact n (system l) (fits .sorted) (fits .below) .1 c))
+
+  -- a call that is not refused: 0, and n values that meet every equation; or 6, and some set of equations cancels
+  pub call-says : (n : ℕ) (l : Lent) → Runs kn kw n l
+      → ((call n l .answer ≡ Solved) × (length (call n l .solution) ≡ n) × MeetsAll (call n l .solution) (system l))
+      ⊎ ((call n l .answer ≡ Unsolvable) × ((mask : List Bool) × Cancels mask (system l)))
+  call-says n l a =
+      go (call-two n (kn n (l .m) (length (l .vars))) (kw n (l .m) (length (l .vars))) (run n (system l)) (l .solution) (l .numbers) (l .words)
+      (systemRules n (l .m) (l .starts) (l .vars) (l .constants)) a)
+    where
+      go : (call n l .answer ≡ Solved) ⊎ (call n l .answer ≡ Unsolvable)
+          → ((call n l .answer ≡ Solved) × (length (call n l .solution) ≡ n) × MeetsAll (call n l .solution) (system l))
+          ⊎ ((call n l .answer ≡ Unsolvable) × ((mask : List Bool) × Cancels mask (system l)))
+      go (inl e) = inl (let s = call-solves n l e in (e, s .0, s .1))
+      go (inr e) = inr (e, call-exact n l a .0 e)
 
   -- constants below 2 ^ k: cells below 2 ^ k
   pub call-narrow : (n : ℕ) (l : Lent) (k : ℕ) → Each (λ e. e .c < 2 ^ k) (system l) → call n l .answer ≡ Solved → (v : ℕ) → getD (call n l .solution) v 0 < 2 ^ k

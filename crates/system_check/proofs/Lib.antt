@@ -2,3 +2,4 @@ pub mod Evaluating
 pub mod Meeting
 pub mod Checking
 pub mod Examples
+pub mod Determined

@@ -1,14 +1,14 @@
--- The sums on the workbench: cases, and what a case comes to by the definitions of the public calls.
+-- The sums on the workbench: cases, and what is seen after a case by the definition of its public call.
 use mathlib.Core.Path.{_≡_}
 use mathlib.Core.List.{List, [], _∷_, _++_}
-use Prim.Native.Nat.{ℕ, _+_}
-use lib.ListN.{length, take}
+use Prim.Native.Nat.{ℕ, _+_, _-_}
+use lib.ListN.{length, take, drop, replicate}
+use lib.Dec.{leb}
 use lib.Ieee.{Float, binary64, div}
 use Rattle.areas.specs.Stretch.{zeros}
 use Rattle.answers.specs.Sizes.{sparseNumbers, sparseWords, lazyNumbers, lazyWords, denseNumbers, denseWords, peelHighNumbers, peelHighBytes, peelLowNumbers, peelLowBytes}
-use Rattle.answers.specs.Calls.{Call}
-use Rattle.answers.specs.declared.Answer.{Answer}
-use Rattle.answers.specs.declared.Answer.the-variants.{Solved, TooLarge, BadShape, BadEntry, WrongSolution, ShortArea, Unsolvable, CrowdedVertex, Stuck, BadFile, OutsideDomain}
+use Rattle.answers.specs.Calls.{Call, pick}
+use Rattle.answers.specs.Numbers.{numberOf, placeOf}
 use Rattle.equation.specs.Sums.{SumCall, sumCall}
 use Rattle.sparse_rules.specs.SparseCall.{sparseCall}
 use Rattle.dense.specs.Call.{denseCall}
@@ -33,69 +33,147 @@ pub data Case : Type 0 where
   -- two lists with their constants
   bySum : List ℕ → ℕ → List ℕ → ℕ → Case
 
--- what comes out
+-- what a line says of it
 pub data Outcome : Type 0 where
+  -- solved
   values : List ℕ → Outcome
   -- number and place
   refusal : ℕ → ℕ → Outcome
-  -- place, and the percentage unpeeled
+  -- 8: place, and the percentage unpeeled
   stuckAt : ℕ → Float → Outcome
   -- the variables and the constant of a sum
   summed : List ℕ → ℕ → Outcome
 
--- after 0 the values, after any other number the number and its place
-abbrev pub solverOutcome : Answer → List ℕ → Outcome
-solverOutcome Solved x = values x
-solverOutcome TooLarge x = refusal 1 0
-solverOutcome BadShape x = refusal 2 0
-solverOutcome (BadEntry place) x = refusal 3 place
-solverOutcome WrongSolution x = refusal 4 0
-solverOutcome ShortArea x = refusal 5 0
-solverOutcome Unsolvable x = refusal 6 0
-solverOutcome (CrowdedVertex vertex) x = refusal 7 vertex
-solverOutcome (Stuck outside) x = refusal 8 outside
-solverOutcome BadFile x = refusal 9 0
-solverOutcome OutsideDomain x = refusal 10 0
+-- ---- what is seen after a call
 
-abbrev pub peelOutcome : Answer → Float → List ℕ → Outcome
-peelOutcome Solved percent x = values x
-peelOutcome TooLarge percent x = refusal 1 0
-peelOutcome BadShape percent x = refusal 2 0
-peelOutcome (BadEntry place) percent x = refusal 3 place
-peelOutcome WrongSolution percent x = refusal 4 0
-peelOutcome ShortArea percent x = refusal 5 0
-peelOutcome Unsolvable percent x = refusal 6 0
-peelOutcome (CrowdedVertex vertex) percent x = refusal 7 vertex
-peelOutcome (Stuck outside) percent x = stuckAt outside percent
-peelOutcome BadFile percent x = refusal 9 0
-peelOutcome OutsideDomain percent x = refusal 10 0
+-- number and place; the percentage unpeeled; the constant of a sum; the slice that is written; the areas: numbers, and words or bytes
+pub record Seen : Type 0 where
+  pub number : ℕ
+  pub place : ℕ
+  pub unpeeled : Float
+  pub constant : ℕ
+  pub written : List ℕ
+  pub numbers : List ℕ
+  pub others : List ℕ
 
-abbrev pub ofSolver : Call → Outcome
-ofSolver call = solverOutcome (call .answer) (call .solution)
+abbrev pub ofSolver : Call → Seen
+ofSolver call = record {
+  number = numberOf (call .answer);
+  place = placeOf (call .answer);
+  unpeeled = count 0;
+  constant = 0;
+  written = call .solution;
+  numbers = call .numbers;
+  others = call .words;
+}
 
-abbrev pub ofPeeler : PeelCall → Outcome
-ofPeeler call = peelOutcome (call .answer) (call .report .unpeeled) (call .solution)
+abbrev pub ofPeeler : PeelCall → Seen
+ofPeeler call = record {
+  number = numberOf (call .answer);
+  place = placeOf (call .answer);
+  unpeeled = call .report .unpeeled;
+  constant = 0;
+  written = call .solution;
+  numbers = call .numbers;
+  others = call .bytes;
+}
 
-abbrev pub ofSum : SumCall → Outcome
-ofSum call = summed (take (call .result .len) (call .out)) (call .result .constant)
+-- the sum, and in the place of an area what follows it
+abbrev pub ofSum : SumCall → Seen
+ofSum call = record {
+  number = numberOf (call .result .answer);
+  place = placeOf (call .result .answer);
+  unpeeled = count 0;
+  constant = call .result .constant;
+  written = take (call .result .len) (call .out);
+  numbers = drop (call .result .len) (call .out);
+  others = [];
+}
 
--- a case by the definition of its public call, lent a solution and areas of zeros, exactly its room
-unfoldable pub comesTo : Case → Outcome
-comesTo (bySparse n starts vars constants) =
-    ofSolver (sparseCall n (length constants) starts vars constants (zeros n) (zeros (sparseNumbers n (length constants))) (zeros (sparseWords (length constants))))
-comesTo (byLazy n starts vars constants) =
-    ofSolver (lazyCall n (length constants) starts vars constants (zeros n) (zeros (lazyNumbers n (length constants) (length vars))) (zeros (lazyWords (length constants))))
-comesTo (byDense n w rows constants) =
-    ofSolver (denseCall n (length constants) w rows constants (zeros n) (zeros (denseNumbers (length constants))) (zeros (denseWords (length constants) w)))
-comesTo (bySlow n w rows constants) =
-    ofSolver (slowCall n (length constants) w rows constants (zeros n) (zeros (denseNumbers (length constants))) (zeros (denseWords (length constants) w)))
-comesTo (byHigh n edges) = ofPeeler (peelHighCall n edges (zeros n) (zeros (peelHighNumbers n (length edges))) (zeros (peelHighBytes n (length edges))))
-comesTo (byLow n edges) = ofPeeler (peelLowCall n edges (zeros n) (zeros (peelLowNumbers n)) (zeros (peelLowBytes n)))
-comesTo (bySum left left-c right right-c) = ofSum (sumCall left right left-c right-c (zeros (length left + length right)))
+-- ---- a case on the bench
+
+-- the cells of the slice that is written, and the room of the areas
+pub record BenchRoom : Type 0 where
+  pub written : ℕ
+  pub numbers : ℕ
+  pub others : ℕ
+
+abbrev pub room : ℕ → ℕ → ℕ → BenchRoom
+room written numbers others = record { written = written; numbers = numbers; others = others }
+
+abbrev pub roomOf : Case → BenchRoom
+roomOf (bySparse n starts vars constants) = room n (sparseNumbers n (length constants)) (sparseWords (length constants))
+roomOf (byLazy n starts vars constants) = room n (lazyNumbers n (length constants) (length vars)) (lazyWords (length constants))
+roomOf (byDense n w rows constants) = room n (denseNumbers (length constants)) (denseWords (length constants) w)
+roomOf (bySlow n w rows constants) = room n (denseNumbers (length constants)) (denseWords (length constants) w)
+roomOf (byHigh n edges) = room n (peelHighNumbers n (length edges)) (peelHighBytes n (length edges))
+roomOf (byLow n edges) = room n (peelLowNumbers n) (peelLowBytes n)
+roomOf (bySum left left-c right right-c) = room (length left + length right) 0 0
+
+-- k nines
+abbrev pub nines : ℕ → List ℕ
+nines k = replicate k 9
+
+-- a call lent nines: a solution of its length, and of each area one more than its room
+abbrev pub onNines : {A : Type 0} → (List ℕ → List ℕ → List ℕ → A) → BenchRoom → A
+onNines call r = call (nines (r .written)) (nines (r .numbers + 1)) (nines (r .others + 1))
+
+-- a case with its room, by the definition of its public call
+abbrev pub seenBy : Case → BenchRoom → Seen
+seenBy (bySparse n starts vars constants) r = ofSolver (onNines (sparseCall n (length constants) starts vars constants) r)
+seenBy (byLazy n starts vars constants) r = ofSolver (onNines (lazyCall n (length constants) starts vars constants) r)
+seenBy (byDense n w rows constants) r = ofSolver (onNines (denseCall n (length constants) w rows constants) r)
+seenBy (bySlow n w rows constants) r = ofSolver (onNines (slowCall n (length constants) w rows constants) r)
+seenBy (byHigh n edges) r = ofPeeler (onNines (peelHighCall n edges) r)
+seenBy (byLow n edges) r = ofPeeler (onNines (peelLowCall n edges) r)
+seenBy (bySum left left-c right right-c) r = ofSum (sumCall left right left-c right-c (nines (r .written)))
+
+unfoldable pub comesTo : Case → Seen
+comesTo c = seenBy c (roomOf c)
+
+-- ---- what must be seen
+
+-- after a run the room of each area is zero, and the nine past it is untouched
+abbrev pub afterRun : BenchRoom → ℕ → ℕ → Float → List ℕ → Seen
+afterRun r number place percent written = record {
+  number = number;
+  place = place;
+  unpeeled = percent;
+  constant = 0;
+  written = written;
+  numbers = zeros (r .numbers) ++ (9 ∷ []);
+  others = zeros (r .others) ++ (9 ∷ []);
+}
+
+abbrev pub allAsLent : BenchRoom → ℕ → ℕ → Seen
+allAsLent r number place = record {
+  number = number;
+  place = place;
+  unpeeled = count 0;
+  constant = 0;
+  written = nines (r .written);
+  numbers = nines (r .numbers + 1);
+  others = nines (r .others + 1);
+}
+
+-- every number but 0 keeps the solution as lent, and 1 to 5 the areas too; a sum is followed by zeros
+abbrev pub due : BenchRoom → Outcome → Seen
+due r (values x) = afterRun r 0 0 (count 0) x
+due r (refusal number place) = pick (leb number 5) (allAsLent r number place) (afterRun r number place (count 0) (nines (r .written)))
+due r (stuckAt place percent) = afterRun r 8 place percent (nines (r .written))
+due r (summed vars constant) = record {
+  number = 0;
+  place = 0;
+  unpeeled = count 0;
+  constant = constant;
+  written = vars;
+  numbers = zeros (r .written - length vars);
+  others = [];
+}
 
 -- ---- the table
 
--- a case, and what it must come to
+-- a case, and what its call must tell
 pub record Line : Type 0 where
   pub case : Case
   pub outcome : Outcome
@@ -153,6 +231,6 @@ sumLines =
 abbrev pub table : List Line
 table = sparseLines ++ (lazyLines ++ (peelLines byHigh ++ (peelLines byLow ++ (denseLines byDense ++ (denseLines bySlow ++ sumLines)))))
 
--- the case comes to what it must
+-- the call tells what it must, and every cell that it was lent is as it must be
 abbrev pub Comes : Line → Type 0
-Comes l = comesTo (l .case) ≡ l .outcome
+Comes l = comesTo (l .case) ≡ due (roomOf (l .case)) (l .outcome)

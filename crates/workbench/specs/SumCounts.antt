@@ -3,7 +3,6 @@ use mathlib.Core.Path.{_≡_}
 use mathlib.Core.List.{List, [], _∷_}
 use Prim.Native.Nat.{ℕ, _+_}
 use lib.ListN.{length}
-use Rattle.areas.specs.Stretch.{zeros}
 use Rattle.answers.specs.Reported.{reported}
 use Rattle.answers.specs.Sizes.{sparseNumbers, sparseWords, lazyNumbers, lazyWords}
 use Rattle.system.specs.System.{equations}
@@ -12,6 +11,7 @@ use Rattle.sparse_rules.specs.Cancelled.{sparseCancels}
 use Rattle.sparse_rules.specs.SparseCall.{sparseCall}
 use Rattle.lazy.specs.Cancelled.{lazyCancels}
 use Rattle.lazy_calls.specs.LazyCall.{lazyCall}
+use Rattle.workbench.specs.Bench.{nines}
 
 -- n, starts, variables, constants
 pub record Lists : Type 0 where
@@ -23,18 +23,18 @@ pub record Lists : Type 0 where
 abbrev pub sparseTells : Lists → ℕ
 sparseTells s =
     let m = length (s .constants) in
-    reported (sparseCall (s .n) m (s .starts) (s .vars) (s .constants) (zeros (s .n)) (zeros (sparseNumbers (s .n) m)) (zeros (sparseWords m)) .answer)
+    reported (sparseCall (s .n) m (s .starts) (s .vars) (s .constants) (nines (s .n)) (nines (sparseNumbers (s .n) m)) (nines (sparseWords m)) .answer)
     (sparseCancels (equations m (s .starts) (s .vars) (s .constants)))
 
 abbrev pub lazyTells : Lists → ℕ
 lazyTells s =
     let m = length (s .constants) in
     let room = lazyNumbers (s .n) m (length (s .vars)) in
-    reported (lazyCall (s .n) m (s .starts) (s .vars) (s .constants) (zeros (s .n)) (zeros room) (zeros (lazyWords m)) .answer)
+    reported (lazyCall (s .n) m (s .starts) (s .vars) (s .constants) (nines (s .n)) (nines room) (nines (lazyWords m)) .answer)
     (lazyCancels (s .n) (equations m (s .starts) (s .vars) (s .constants)))
 
 abbrev pub sumTells : List ℕ → List ℕ → ℕ
-sumTells left right = sumCall left right 0 0 (zeros (length left + length right)) .result .cancelled
+sumTells left right = sumCall left right 0 0 (nines (length left + length right)) .result .cancelled
 
 -- P3: {0,1}=5, {1,2}=3, {0,2}=6. P4: the last constant 7. P5: {0,1}=1, {0,2}=2
 abbrev pub P3 : Lists

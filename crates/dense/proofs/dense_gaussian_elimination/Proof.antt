@@ -1,32 +1,33 @@
 -- Each return by the tests that led there; the run has the answer of the last.
-use mathlib.Core.Path.{_≡_, refl, sym, _∙_}
+use mathlib.Core.Path.{_≡_, sym, _∙_}
 use native.Mathlib.Omega.{arith}
 use borrow.Author.Needs.{needs}
 use borrow.Author.Tests.{le-leb, lt-leb, eq-eqb}
 use Rattle.gf2.proofs.Tests.{eqb-ne}
+use Rattle.answers.proofs.Told.{call-tells, tells}
 use Rattle.dense.specs.Call.{denseCall}
-use Rattle.dense.proofs.Lending.{admitted-by}
+use Rattle.dense.proofs.Lending.{dense-kept-sound}
 use Rattle.dense.proofs.dense_gaussian_elimination.Statement.{statement}
 use Rattle.dense.proofs.dense_gaussian_elimination.Tie as tie
 
 returns : tie.Need-returns
 unfolding denseCall
-returns c = simp (sym (c .before .before .before .check-rules .ensures) ∙ c .before .checked .given .1) (refl, (refl, (refl, refl)))
+returns c = simp (sym (c .before .before .before .check-rules .ensures) ∙ c .before .checked .given .1) call-tells
 
 returns-2 : tie.Need-returns-2
 unfolding denseCall
-returns-2 c = simp (sym (c .before .before .before .check-rules .ensures) ∙ c .before .enum-told .given .1, eqb-ne _ _ (c .if1 .taken)) (refl, (refl, (refl, refl)))
+returns-2 c = simp (sym (c .before .before .before .check-rules .ensures) ∙ c .before .enum-told .given .1, eqb-ne _ _ (c .if1 .taken)) call-tells
 
 returns-3 : tie.Need-returns-3
 unfolding denseCall
 returns-3 c =
-    simp (sym (c .before .before .before .before .check-rules .ensures) ∙ c .before .before .enum-told .given .1, eq-eqb _ _ (c .before .if1 .left), lt-leb _ _ (c .if2 .taken)) (refl, (refl, (refl, refl)))
+    simp (sym (c .before .before .before .before .check-rules .ensures) ∙ c .before .before .enum-told .given .1, eq-eqb _ _ (c .before .if1 .left), lt-leb _ _ (c .if2 .taken)) call-tells
 
 dense-words-requires : tie.Need-dense-words-requires
 dense-words-requires c κs =
     let a = c .before .before .before .before .before .before .before .before .before .before .args in
-    let h = admitted-by (a .n) (a .m) (a .w) (a .rows .now) (a .constants .now) (sym (c .before .before .before .before .check-rules .ensures) ∙ c .before .before .enum-told .given .1) in
-    (h .m-fits, h .w-fits)
+    let h = dense-kept-sound (a .n) (a .m) (a .w) (a .rows .now) (a .constants .now) (sym (c .before .before .before .before .check-rules .ensures) ∙ c .before .before .enum-told .given .1) in
+    (h .few-rows, h .few-words)
 
 returns-4 : tie.Need-returns-4
 unfolding denseCall
@@ -36,7 +37,7 @@ returns-4 c =
       eq-eqb _ _ (c .before .before .before .if1 .left),
       le-leb _ _ (c .before .before .if2 .left),
       lt-leb _ _ (rw (c .before .dense-words .ensures) at (c .if3 .taken)),
-    ) (refl, (refl, (refl, refl)))
+    ) call-tells
 
 solve-requires : tie.Need-solve-requires
 solve-requires c κs =
@@ -50,7 +51,7 @@ returns-5 c =
       eq-eqb _ _ (c .before .before .before .before .before .before .before .before .before .before .before .before .before .if1 .left),
       le-leb _ _ (c .before .before .before .before .before .before .before .before .before .before .before .before .if2 .left),
       le-leb _ _ (rw (c .before .before .before .before .before .before .before .before .before .before .before .dense-words .ensures) at (c .before .before .before .before .before .before .before .before .before .before .if3 .left)),
-    ) (c .before .before .before .before .before .before .solve .ensures)
+    ) (tells (c .before .before .before .before .before .before .solve .ensures))
 
 pub dense-gaussian-elimination-spec : {M : Type 1} → statement M
 dense-gaussian-elimination-spec =

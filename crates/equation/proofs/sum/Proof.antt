@@ -15,6 +15,7 @@ use Rattle.equation.specs.Increase.{rises}
 use Rattle.equation.specs.Sums.{sumCall}
 use Rattle.equation.proofs.Settle.{settle-front}
 use Rattle.equation.proofs.Rise.{rises-increasing}
+use Rattle.equation.proofs.Telling.{sum-tells}
 use Rattle.equation.proofs.sum.Statement.{statement}
 use Rattle.equation.proofs.sum.Tie as tie
 
@@ -37,31 +38,31 @@ sum-short a = length-symDiff-le (left a) (right a)
 
 returns : tie.Need-returns
 unfolding sumCall
-returns c = simp (c .refusal .ensures, lt-leb _ _ (c .before .if1 .taken)) (refl, refl)
+returns c = simp (c .refusal .ensures, lt-leb _ _ (c .before .if1 .taken)) sum-tells
 
 returns-2 : tie.Need-returns-2
 unfolding sumCall
-returns-2 c = simp (c .refusal2 .ensures, le-leb _ _ (c .before .before .if1 .left), lt-leb _ _ (c .before .if2 .taken)) (refl, refl)
+returns-2 c = simp (c .refusal2 .ensures, le-leb _ _ (c .before .before .if1 .left), lt-leb _ _ (c .before .if2 .taken)) sum-tells
 
 returns-3 : tie.Need-returns-3
 unfolding sumCall
 returns-3 c =
     let i = c .before .before in
-    simp (c .refusal3 .ensures, le-leb _ _ (i .before .before .if1 .left), le-leb _ _ (i .before .if2 .left), sym (i .increasing .ensures) ∙ not-true _ (c .before .if3 .taken)) (refl, refl)
+    simp (c .refusal3 .ensures, le-leb _ _ (i .before .before .if1 .left), le-leb _ _ (i .before .if2 .left), sym (i .increasing .ensures) ∙ not-true _ (c .before .if3 .taken)) sum-tells
 
 returns-4 : tie.Need-returns-4
 unfolding sumCall
 returns-4 c =
     let j = c .before .before in
     let i = j .before .before in
-    simp (c .refusal4 .ensures, le-leb _ _ (i .before .before .if1 .left), le-leb _ _ (i .before .if2 .left), left-rises (j .before), sym (j .increasing2 .ensures) ∙ not-true _ (c .before .if4 .taken)) (refl, refl)
+    simp (c .refusal4 .ensures, le-leb _ _ (i .before .before .if1 .left), le-leb _ _ (i .before .if2 .left), left-rises (j .before), sym (j .increasing2 .ensures) ∙ not-true _ (c .before .if4 .taken)) sum-tells
 
 returns-5 : tie.Need-returns-5
 unfolding sumCall
 returns-5 c =
     let e = c .before .before in
     let i = e .before .before .before in
-    simp (c .refusal5 .ensures, le-leb _ _ (i .before .before .if1 .left), le-leb _ _ (i .before .if2 .left), left-rises (e .before .before), right-rises e, lt-leb _ _ (c .before .if5 .taken)) (refl, refl)
+    simp (c .refusal5 .ensures, le-leb _ _ (i .before .before .if1 .left), le-leb _ _ (i .before .if2 .left), left-rises (e .before .before), right-rises e, lt-leb _ _ (c .before .if5 .taken)) sum-tells
 
 returns-6 : tie.Need-returns-6
 unfolding sumCall
@@ -72,7 +73,7 @@ returns-6 c =
     let i = e .before .before .before in
     let g = a .add-ptr .ensures in
     let shared = common-half (left a) (right a) _ (rises-increasing _ (left-rises (e .before .before))) (rises-increasing _ (right-rises e)) refl in
-    simp (settle-front (symDiff (left a) (right a)) _ (length (left a) + length (right a)) (omega (arith, sum-short a, a .before .before .if5 .left)) (g .0) (g .1) (z .zero-numbers .ensures), g .0, shared, le-leb _ _ (i .before .before .if1 .left), le-leb _ _ (i .before .if2 .left), left-rises (e .before .before), right-rises e, le-leb _ _ (a .before .before .if5 .left)) (refl, refl)
+    simp (settle-front (symDiff (left a) (right a)) _ (length (left a) + length (right a)) (omega (arith, sum-short a, a .before .before .if5 .left)) (g .0) (g .1) (z .zero-numbers .ensures), g .0, shared, le-leb _ _ (i .before .before .if1 .left), le-leb _ _ (i .before .if2 .left), left-rises (e .before .before), right-rises e, le-leb _ _ (a .before .before .if5 .left)) sum-tells
 
 pub sum-spec : {M : Type 1} → statement M
 sum-spec =

@@ -17,63 +17,48 @@ Inv-loop tally name k₀ t4 t5 k = k ≤ 11
 abbrev μ-loop : tie.MeasureT-loop
 μ-loop tally name k₀ t4 t5 k = 11 - k
 
--- src/counts.rt:38:5
 loop-holds : tie.Need-loop-holds Inv-loop μ-loop
 loop-holds c = search needs
 
--- src/counts.rt:39:29
 mul-count-line : tie.Need-mul-count-line Inv-loop μ-loop
 mul-count-line c = search needs
 
--- src/counts.rt:39:29
 element-copy-out-count-line : tie.Need-element-copy-out-count-line Inv-loop μ-loop
 element-copy-out-count-line c = search needs
 
--- src/counts.rt:39:9
 count-line-requires : tie.Need-count-line-requires Inv-loop μ-loop
 count-line-requires c κs = search needs
 
--- src/counts.rt:40:9
 add-k : tie.Need-add-k Inv-loop μ-loop
 add-k c = search needs
 
--- src/counts.rt:38:5
 loop-less : tie.Need-loop-less Inv-loop μ-loop
 loop-less c = search needs
 
--- src/counts.rt:38:5
 loop-again : tie.Need-loop-again Inv-loop μ-loop
 loop-again c = search needs
 
--- src/counts.rt:42:5
 write-all-requires : tie.Need-write-all-requires Inv-loop μ-loop
 write-all-requires c κs = search needs
 
--- src/counts.rt:43:34
 slice-aggregate-write-all : tie.Need-slice-aggregate-write-all Inv-loop μ-loop
 slice-aggregate-write-all c = search needs
 
--- src/counts.rt:43:5
 write-all-requires-2 : tie.Need-write-all-requires-2 Inv-loop μ-loop
 write-all-requires-2 c κs = search needs
 
--- src/counts.rt:44:38
 element-copy-out-print-decimal : tie.Need-element-copy-out-print-decimal Inv-loop μ-loop
 element-copy-out-print-decimal c = search needs
 
--- src/counts.rt:44:5
 print-decimal-requires : tie.Need-print-decimal-requires Inv-loop μ-loop
 print-decimal-requires c κs = search needs
 
--- src/counts.rt:45:34
 slice-aggregate-write-all-2 : tie.Need-slice-aggregate-write-all-2 Inv-loop μ-loop
 slice-aggregate-write-all-2 c = search needs
 
--- src/counts.rt:45:5
 write-all-requires-3 : tie.Need-write-all-requires-3 Inv-loop μ-loop
 write-all-requires-3 c κs = search needs
 
--- src/counts.rt:36:1
 returns : tie.Need-returns Inv-loop μ-loop
 returns c = search needs
 

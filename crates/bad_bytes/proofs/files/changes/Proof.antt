@@ -15,27 +15,21 @@ Inv-loop tally₀ file p₀ tally p = p ≤ 38
 abbrev μ-loop : tie.MeasureT-loop
 μ-loop tally₀ file p₀ tally p = 38 - p
 
--- src/files.rt:137:5
 loop-holds : tie.Need-loop-holds Inv-loop μ-loop
 loop-holds c = search needs
 
--- src/files.rt:138:9
 changes-at-requires : tie.Need-changes-at-requires Inv-loop μ-loop
 changes-at-requires c κs = search needs
 
--- src/files.rt:139:9
 add-p : tie.Need-add-p Inv-loop μ-loop
 add-p c = search needs
 
--- src/files.rt:137:5
 loop-less : tie.Need-loop-less Inv-loop μ-loop
 loop-less c = search needs
 
--- src/files.rt:137:5
 loop-again : tie.Need-loop-again Inv-loop μ-loop
 loop-again c = search needs
 
--- src/files.rt:135:1
 returns : tie.Need-returns Inv-loop μ-loop
 returns c = search needs
 

@@ -15,31 +15,24 @@ Inv-loop tally₀ file p v₀ tally v = v ≤ 256
 abbrev μ-loop : tie.MeasureT-loop
 μ-loop tally₀ file p v₀ tally v = 256 - v
 
--- src/files.rt:129:5
 loop-holds : tie.Need-loop-holds Inv-loop μ-loop
 loop-holds c = search needs
 
--- src/files.rt:130:32
 cast-change : tie.Need-cast-change Inv-loop μ-loop
 cast-change c = search needs
 
--- src/files.rt:130:9
 change-requires : tie.Need-change-requires Inv-loop μ-loop
 change-requires c κs = search needs
 
--- src/files.rt:131:9
 add-v : tie.Need-add-v Inv-loop μ-loop
 add-v c = search needs
 
--- src/files.rt:129:5
 loop-less : tie.Need-loop-less Inv-loop μ-loop
 loop-less c = search needs
 
--- src/files.rt:129:5
 loop-again : tie.Need-loop-again Inv-loop μ-loop
 loop-again c = search needs
 
--- src/files.rt:125:1
 returns : tie.Need-returns Inv-loop μ-loop
 returns c = search needs
 

@@ -18,39 +18,30 @@ Inv-loop tally₀ file k₀ tally k = k ≤ 38
 abbrev μ-loop : tie.MeasureT-loop
 μ-loop tally₀ file k₀ tally k = 38 - k
 
--- src/files.rt:146:5
 loop-holds : tie.Need-loop-holds Inv-loop μ-loop
 loop-holds c = search needs
 
--- src/files.rt:147:31
 array-share-prefix-file : tie.Need-array-share-prefix-file Inv-loop μ-loop
 array-share-prefix-file c = search needs
 
--- src/files.rt:147:31
 slice-aggregate-answered : tie.Need-slice-aggregate-answered Inv-loop μ-loop
 slice-aggregate-answered c = sym (length-take-le _ _ (omega arith))
 
--- src/files.rt:147:22
 answered-requires : tie.Need-answered-requires Inv-loop μ-loop
 answered-requires c κs = search needs
 
--- src/files.rt:147:9
 count-requires : tie.Need-count-requires Inv-loop μ-loop
 count-requires c κs = search needs
 
--- src/files.rt:148:9
 add-k : tie.Need-add-k Inv-loop μ-loop
 add-k c = search needs
 
--- src/files.rt:146:5
 loop-less : tie.Need-loop-less Inv-loop μ-loop
 loop-less c = search needs
 
--- src/files.rt:146:5
 loop-again : tie.Need-loop-again Inv-loop μ-loop
 loop-again c = search needs
 
--- src/files.rt:144:1
 returns : tie.Need-returns Inv-loop μ-loop
 returns c = search needs
 

@@ -15,91 +15,69 @@ Inv-loop seed₀ n count values vars₀ at row₀ sum₀ left₀ v₀ seed vars 
 abbrev μ-loop : tie.MeasureT-loop
 μ-loop seed₀ n count values vars₀ at row₀ sum₀ left₀ v₀ seed vars row sum left v = left
 
--- src/equations.rt:47:5
 loop-holds : tie.Need-loop-holds Inv-loop μ-loop
 loop-holds c = search needs
 
--- src/equations.rt:48:29
 sub-draw-gap : tie.Need-sub-draw-gap Inv-loop μ-loop
 sub-draw-gap c = search needs
 
--- src/equations.rt:48:14
 draw-gap-requires : tie.Need-draw-gap-requires Inv-loop μ-loop
 draw-gap-requires c κs = search needs
 
--- src/equations.rt:48:9
 add-v : tie.Need-add-v Inv-loop μ-loop
 add-v c = search needs
 
--- src/equations.rt:49:35
 cast-vars : tie.Need-cast-vars Inv-loop μ-loop
 cast-vars c = search needs
 
--- src/equations.rt:49:14
 add-vars : tie.Need-add-vars Inv-loop μ-loop
 add-vars c = search needs
 
--- src/equations.rt:49:14
 sub-vars : tie.Need-sub-vars Inv-loop μ-loop
 sub-vars c = search needs
 
--- src/equations.rt:49:9
 mul-vars : tie.Need-mul-vars Inv-loop μ-loop
 mul-vars c = search needs
 
--- src/equations.rt:49:9
 slice-write-vars : tie.Need-slice-write-vars Inv-loop μ-loop
 slice-write-vars c = search needs
 
--- src/equations.rt:50:24
 shl-row : tie.Need-shl-row Inv-loop μ-loop
 shl-row c = search needs
 
--- src/equations.rt:50:9
 mul-row : tie.Need-mul-row Inv-loop μ-loop
 mul-row c = search needs
 
--- src/equations.rt:50:9
 slice-read-row : tie.Need-slice-read-row Inv-loop μ-loop
 slice-read-row c = search needs
 
--- src/equations.rt:50:9
 slice-write-row : tie.Need-slice-write-row Inv-loop μ-loop
 slice-write-row c = search needs
 
--- src/equations.rt:51:16
 mul-sum : tie.Need-mul-sum Inv-loop μ-loop
 mul-sum c = search needs
 
--- src/equations.rt:51:16
 shared-slice-read-sum : tie.Need-shared-slice-read-sum Inv-loop μ-loop
 shared-slice-read-sum c = search needs
 
--- src/equations.rt:52:9
 add-v-2 : tie.Need-add-v-2 Inv-loop μ-loop
 add-v-2 c = search needs
 
--- src/equations.rt:53:9
 sub-left : tie.Need-sub-left Inv-loop μ-loop
 sub-left c = search needs
 
--- src/equations.rt:47:5
 loop-less : tie.Need-loop-less Inv-loop μ-loop
 loop-less c = search needs
 
--- src/equations.rt:47:5
 loop-again : tie.Need-loop-again Inv-loop μ-loop
 loop-again c = (search needs, search needs, search needs, search needs)
 
--- src/equations.rt:33:1
 same-length : tie.Need-same-length Inv-loop μ-loop
 same-length c = search needs
 
--- src/equations.rt:33:1
 same-length-2 : tie.Need-same-length-2 Inv-loop μ-loop
 same-length-2 c = search needs
 
--- src/equations.rt:33:1
 returns : tie.Need-returns Inv-loop μ-loop
 returns c = search needs
 

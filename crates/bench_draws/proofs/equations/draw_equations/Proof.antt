@@ -16,87 +16,66 @@ Inv-loop seed₀ n m w shortest longest values starts₀ vars₀ constants₀ ro
 abbrev μ-loop : tie.MeasureT-loop
 μ-loop seed₀ n m w shortest longest values starts₀ vars₀ constants₀ rows₀ t₀ i₀ seed starts vars constants rows t i = m - i
 
--- src/equations.rt:107:5
 loop-holds : tie.Need-loop-holds Inv-loop μ-loop
 loop-holds c = search needs
 
--- src/equations.rt:108:21
 cast-starts : tie.Need-cast-starts Inv-loop μ-loop
 cast-starts c = search needs
 
--- src/equations.rt:108:9
 mul-starts : tie.Need-mul-starts Inv-loop μ-loop
 mul-starts c = search needs
 
--- src/equations.rt:108:9
 slice-write-starts : tie.Need-slice-write-starts Inv-loop μ-loop
 slice-write-starts c = search needs
 
--- src/equations.rt:109:57
 sub-draw-count : tie.Need-sub-draw-count Inv-loop μ-loop
 sub-draw-count c = search needs
 
--- src/equations.rt:109:13
 draw-count-requires : tie.Need-draw-count-requires Inv-loop μ-loop
 draw-count-requires c κs = search needs
 
--- src/equations.rt:110:24
 draw-row-requires : tie.Need-draw-row-requires Inv-loop μ-loop
 draw-row-requires c κs = search needs
 
--- src/equations.rt:110:9
 mul-constants : tie.Need-mul-constants Inv-loop μ-loop
 mul-constants c = search needs
 
--- src/equations.rt:110:9
 slice-write-constants : tie.Need-slice-write-constants Inv-loop μ-loop
 slice-write-constants c = search needs
 
--- src/equations.rt:111:9
 add-t : tie.Need-add-t Inv-loop μ-loop
 add-t c = search needs
 
--- src/equations.rt:112:9
 add-i : tie.Need-add-i Inv-loop μ-loop
 add-i c = search needs
 
--- src/equations.rt:107:5
 loop-less : tie.Need-loop-less Inv-loop μ-loop
 loop-less c = search needs
 
--- src/equations.rt:107:5
 loop-again : tie.Need-loop-again Inv-loop μ-loop
 loop-again c = (search needs, search needs, search needs, search needs, search needs, search needs)
 
--- src/equations.rt:114:17
 cast-starts-2 : tie.Need-cast-starts-2 Inv-loop μ-loop
 cast-starts-2 c = search needs
 
--- src/equations.rt:114:5
 mul-starts-2 : tie.Need-mul-starts-2 Inv-loop μ-loop
 mul-starts-2 c = search needs
 
--- src/equations.rt:114:5
 slice-write-starts-2 : tie.Need-slice-write-starts-2 Inv-loop μ-loop
 slice-write-starts-2 c = search needs
 
--- src/equations.rt:88:1
 same-length : tie.Need-same-length Inv-loop μ-loop
 same-length c = search needs
 
--- src/equations.rt:88:1
 same-length-2 : tie.Need-same-length-2 Inv-loop μ-loop
 same-length-2 c = search needs
 
--- src/equations.rt:88:1
 same-length-3 : tie.Need-same-length-3 Inv-loop μ-loop
 same-length-3 c = search needs
 
--- src/equations.rt:88:1
 same-length-4 : tie.Need-same-length-4 Inv-loop μ-loop
 same-length-4 c = search needs
 
--- src/equations.rt:88:1
 returns : tie.Need-returns Inv-loop μ-loop
 returns c = search needs
 

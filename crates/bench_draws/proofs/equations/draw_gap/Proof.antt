@@ -15,31 +15,24 @@ Inv-loop seed₀ span left gap₀ seed gap = gap + left ≤ span
 abbrev μ-loop : tie.MeasureT-loop
 μ-loop seed₀ span left gap₀ seed gap = span - gap
 
--- src/equations.rt:26:5
 loop-holds : tie.Need-loop-holds Inv-loop μ-loop
 loop-holds c = search needs
 
--- src/equations.rt:26:31
 sub-below : tie.Need-sub-below Inv-loop μ-loop
 sub-below c = search needs
 
--- src/equations.rt:26:19
 below-requires : tie.Need-below-requires Inv-loop μ-loop
 below-requires c κs = search needs
 
--- src/equations.rt:27:9
 add-gap : tie.Need-add-gap Inv-loop μ-loop
 add-gap c = search needs
 
--- src/equations.rt:26:5
 loop-less : tie.Need-loop-less Inv-loop μ-loop
 loop-less c = search needs
 
--- src/equations.rt:26:5
 loop-again : tie.Need-loop-again Inv-loop μ-loop
 loop-again c = search needs
 
--- src/equations.rt:21:1
 returns : tie.Need-returns Inv-loop μ-loop
 returns c = search needs
 

@@ -7,43 +7,33 @@ use Rattle.bench_draws.proofs.equations.draw_row.Reads as reads
 use Rattle.bench_draws.proofs.equations.draw_row.Lts as lts
 use Rattle.bench_draws.proofs.equations.draw_equation.Reads as draw-equation-reads
 
--- src/equations.rt:73:16
 mul-base : tie.Need-mul-base
 mul-base c = let s = c .before .before .before in let r = row-before (s .args .i) (s .args .m) (s .args .w) (omega arith) in search needs
 
--- src/equations.rt:74:15
 add-end : tie.Need-add-end
 add-end c = let s = c .before .before .before in let r = row-before (s .args .i) (s .args .m) (s .args .w) (omega arith) in search needs
 
--- src/equations.rt:75:53
 mul-draw-equation : tie.Need-mul-draw-equation
 mul-draw-equation c = let s = c .before .before .before .before .before in let r = row-before (s .args .i) (s .args .m) (s .args .w) (omega arith) in search needs
 
--- src/equations.rt:75:53
 sub-draw-equation : tie.Need-sub-draw-equation
 sub-draw-equation c = search needs
 
--- src/equations.rt:75:53
 part-draw-equation-start : tie.Need-part-draw-equation-start
 part-draw-equation-start c = search needs
 
--- src/equations.rt:75:53
 part-draw-equation-end : tie.Need-part-draw-equation-end
 part-draw-equation-end c = let s = c .before .before .before .before .before in let r = row-before (s .args .i) (s .args .m) (s .args .w) (omega arith) in search needs
 
--- src/equations.rt:75:5
 draw-equation-requires : tie.Need-draw-equation-requires
 draw-equation-requires c κs = search needs
 
--- src/equations.rt:59:1
 same-length : tie.Need-same-length
 same-length c = search needs
 
--- src/equations.rt:59:1
 same-length-2 : tie.Need-same-length-2
 same-length-2 c = search needs
 
--- src/equations.rt:59:1
 returns : tie.Need-returns
 returns c = search needs
 

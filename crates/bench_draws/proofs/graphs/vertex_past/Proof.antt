@@ -7,19 +7,15 @@ use Rattle.bench_draws.proofs.graphs.vertex_past.Tie as tie
 use Rattle.bench_draws.proofs.graphs.vertex_past.Reads as reads
 use Rattle.bench_draws.proofs.graphs.vertex_past.Lts as lts
 
--- src/graphs.rt:12:14
 add-t4 : tie.Need-add-t4
 add-t4 c = search needs
 
--- src/graphs.rt:12:13
 rem-t5 : tie.Need-rem-t5
 rem-t5 c = search needs
 
--- src/graphs.rt:12:12
 cast-t6 : tie.Need-cast-t6
 cast-t6 c = let h : 0 < c .args .n = omega arith in omega (arith, mod-lt (c .args .a + c .args .step) h)
 
--- src/graphs.rt:9:1
 returns : tie.Need-returns
 returns c = search needs
 

@@ -5,27 +5,21 @@ use borrow.Author.Needs.{needs}
 use Rattle.bench_peels.proofs.graphs.high_on.Statement.{statement}
 use Rattle.bench_peels.proofs.graphs.high_on.Tie as tie
 
--- src/graphs.rt:192:43
 array-borrow-prefix-x : tie.Need-array-borrow-prefix-x
 array-borrow-prefix-x c = search needs
 
--- src/graphs.rt:192:43
 slice-aggregate-by-high : tie.Need-slice-aggregate-by-high
 slice-aggregate-by-high c = sym (length-take-le _ _ (omega arith))
 
--- src/graphs.rt:192:56
 slice-aggregate-by-high-2 : tie.Need-slice-aggregate-by-high-2
 slice-aggregate-by-high-2 c = search needs
 
--- src/graphs.rt:192:70
 slice-aggregate-by-high-3 : tie.Need-slice-aggregate-by-high-3
 slice-aggregate-by-high-3 c = search needs
 
--- src/graphs.rt:192:9
 by-high-requires : tie.Need-by-high-requires
 by-high-requires c κs = search needs
 
--- src/graphs.rt:186:1
 returns : tie.Need-returns
 returns c = search needs
 

@@ -12,43 +12,33 @@ Inv-loop tally₀ m cells table i₀ tally i = i ≤ m
 abbrev μ-loop : tie.MeasureT-loop
 μ-loop tally₀ m cells table i₀ tally i = m - i
 
--- src/graphs.rt:126:5
 loop-holds : tie.Need-loop-holds Inv-loop μ-loop
 loop-holds c = search needs
 
--- src/graphs.rt:127:17
 mul-e : tie.Need-mul-e Inv-loop μ-loop
 mul-e c = search needs
 
--- src/graphs.rt:127:17
 array-copy-out-e : tie.Need-array-copy-out-e Inv-loop μ-loop
 array-copy-out-e c = search needs
 
--- src/graphs.rt:128:13
 lookup-requires : tie.Need-lookup-requires Inv-loop μ-loop
 lookup-requires c κs = search needs
 
--- src/graphs.rt:130:9
 count-requires : tie.Need-count-requires Inv-loop μ-loop
 count-requires c κs = search needs
 
--- src/graphs.rt:131:9
 hold-requires : tie.Need-hold-requires Inv-loop μ-loop
 hold-requires c κs = search needs
 
--- src/graphs.rt:132:9
 add-i : tie.Need-add-i Inv-loop μ-loop
 add-i c = search needs
 
--- src/graphs.rt:126:5
 loop-less : tie.Need-loop-less Inv-loop μ-loop
 loop-less c = search needs
 
--- src/graphs.rt:126:5
 loop-again : tie.Need-loop-again Inv-loop μ-loop
 loop-again c = search needs
 
--- src/graphs.rt:122:1
 returns : tie.Need-returns Inv-loop μ-loop
 returns c = search needs
 

@@ -5,27 +5,21 @@ use borrow.Author.Needs.{needs}
 use Rattle.bench_peels.proofs.graphs.low_on.Statement.{statement}
 use Rattle.bench_peels.proofs.graphs.low_on.Tie as tie
 
--- src/graphs.rt:202:42
 array-borrow-prefix-x : tie.Need-array-borrow-prefix-x
 array-borrow-prefix-x c = search needs
 
--- src/graphs.rt:202:42
 slice-aggregate-by-low : tie.Need-slice-aggregate-by-low
 slice-aggregate-by-low c = sym (length-take-le _ _ (omega arith))
 
--- src/graphs.rt:202:55
 slice-aggregate-by-low-2 : tie.Need-slice-aggregate-by-low-2
 slice-aggregate-by-low-2 c = search needs
 
--- src/graphs.rt:202:69
 slice-aggregate-by-low-3 : tie.Need-slice-aggregate-by-low-3
 slice-aggregate-by-low-3 c = search needs
 
--- src/graphs.rt:202:9
 by-low-requires : tie.Need-by-low-requires
 by-low-requires c κs = search needs
 
--- src/graphs.rt:196:1
 returns : tie.Need-returns
 returns c = search needs
 

@@ -3,13 +3,14 @@ use mathlib.Core.Path.{_≡_, refl, sym, ap, _∙_, subst}
 use native.Mathlib.Omega.{arith}
 use borrow.Author.Needs.{needs}
 use Rattle.dense_walk.specs.Stairs.{Ready}
-use Rattle.dense.proofs.Lending.{Admitted, admitted-by}
+use Rattle.dense.specs.Fits.{DenseFits}
+use Rattle.dense.proofs.Lending.{dense-kept-sound}
 use Rattle.dense.proofs.Running.{run-refused, run-solved, run-ready, run-numbers, run-words, zeroed-length, filled}
 use Rattle.dense.proofs.run.solve.Statement.{statement}
 use Rattle.dense.proofs.run.solve.Tie as tie
 
-lent : (s : tie.Start) → Admitted (s .args .n) (s .args .m) (s .args .w) (s .args .rows .now) (s .args .constants .now)
-lent s = admitted-by (s .args .n) (s .args .m) (s .args .w) (s .args .rows .now) (s .args .constants .now) (s .pre .0)
+lent : (s : tie.Start) → DenseFits (s .args .n) (s .args .m) (s .args .w) (s .args .rows .now) (s .args .constants .now)
+lent s = dense-kept-sound (s .args .n) (s .args .m) (s .args .w) (s .args .rows .now) (s .args .constants .now) (s .pre .0)
 
 -- a constant was left
 returns : tie.Need-returns
@@ -36,7 +37,7 @@ back-substitution-requires c κs =
     let l = c .before .before .before .before .before .before .before .before .before .before .before .before .before .before .before .before .before .before .before .load .ensures in
     let e = c .before .before .before .before .before .before .before .before .before .before .before .before .before .before .eliminate .ensures in
     let z = zeroed-length (s .args .n) (s .args .solution .now) _ (s .pre .1) (c .before .before .before .before .before .zero-words .ensures) in
-    (e .ranked, omega (arith, e, s .pre), a .w-fits, omega (arith, e, l, s .pre), rw z (run-ready (s .args .rows .now) (s .args .constants .now) (s .pre .0) l e))
+    (e .ranked, omega (arith, e, s .pre), a .few-words, omega (arith, e, l, s .pre), rw z (run-ready (s .args .rows .now) (s .args .constants .now) (s .pre .0) l e))
 
 -- none was left
 returns-2 : tie.Need-returns-2

@@ -7,56 +7,43 @@ use borrow.Author.Needs.{needs}
 use Rattle.lookups.proofs.reading.lookup.Statement.{statement}
 use Rattle.lookups.proofs.reading.lookup.Tie as tie
 
--- src/reading.rt:22:9
 returns : tie.Need-returns
 returns c = simp (lt-leb _ _ (c .if1 .taken)) refl
 
--- src/reading.rt:28:8
 keeps-rule-requires : tie.Need-keeps-rule-requires
 keeps-rule-requires c κs = search needs
 
--- src/reading.rt:29:23
 cast-x : tie.Need-cast-x
 cast-x c = search needs
 
--- src/reading.rt:29:17
 mul-x : tie.Need-mul-x
 mul-x c = search needs
 
--- src/reading.rt:29:17
 shared-slice-read-x : tie.Need-shared-slice-read-x
 shared-slice-read-x c = let v = is-valid _ (edge (c .before .before .before .before .before .before .args .a .0) (c .before .before .before .before .before .before .args .b .0) (c .before .before .before .before .before .before .args .c .0) 0) (sym (c .before .before .before .keeps-rule .ensures) ∙ c .before .before .if2 .taken) in v .a<
 
--- src/reading.rt:30:23
 cast-y : tie.Need-cast-y
 cast-y c = search needs
 
--- src/reading.rt:30:17
 mul-y : tie.Need-mul-y
 mul-y c = search needs
 
--- src/reading.rt:30:17
 shared-slice-read-y : tie.Need-shared-slice-read-y
 shared-slice-read-y c = let v = is-valid _ (edge (c .before .before .before .before .before .before .before .before .args .a .0) (c .before .before .before .before .before .before .before .before .args .b .0) (c .before .before .before .before .before .before .before .before .args .c .0) 0) (sym (c .before .before .before .before .before .keeps-rule .ensures) ∙ c .before .before .before .before .if2 .taken) in v .b<
 
--- src/reading.rt:31:23
 cast-z : tie.Need-cast-z
 cast-z c = search needs
 
--- src/reading.rt:31:17
 mul-z : tie.Need-mul-z
 mul-z c = search needs
 
--- src/reading.rt:31:17
 shared-slice-read-z : tie.Need-shared-slice-read-z
 shared-slice-read-z c = let v = is-valid _ (edge (c .before .before .before .before .before .before .before .before .before .before .args .a .0) (c .before .before .before .before .before .before .before .before .before .before .args .b .0) (c .before .before .before .before .before .before .before .before .before .before .args .c .0) 0) (sym (c .before .before .before .before .before .before .before .keeps-rule .ensures) ∙ c .before .before .before .before .before .before .if2 .taken) in v .c<
 
--- src/reading.rt:32:9
 returns-2 : tie.Need-returns-2
 unfolding edgeXor
 returns-2 c = simp (le-leb _ _ (c .before .before .before .before .before .before .before .before .if1 .left), sym (c .before .before .before .before .before .before .before .keeps-rule .ensures) ∙ c .before .before .before .before .before .before .if2 .taken) refl
 
--- src/reading.rt:18:1
 returns-3 : tie.Need-returns-3
 returns-3 c = simp (le-leb _ _ (c .before .before .if1 .left), sym (c .before .keeps-rule .ensures) ∙ c .if2 .left) refl
 

@@ -10,11 +10,9 @@ use Rattle.peel_gates.proofs.ends.crowded.Reads as reads
 use Rattle.peel_gates.proofs.ends.crowded.Lts as lts
 use Rattle.peel_rules.proofs.report.StuckReport.none.Reads as none-reads
 
--- src/ends.rt:68:17
 none-requires : tie.Need-none-requires
 none-requires c κs = search needs
 
--- src/ends.rt:63:1
 returns : tie.Need-returns
 returns c = ap (λ (r : StuckReport). record { answer = CrowdedVertex (c .before .args .low); report = r }) (c .none .ensures)
 

@@ -10,23 +10,18 @@ use Rattle.peel_gates.proofs.ends.ended.Tie as tie
 use Rattle.peel_gates.proofs.ends.ended.Reads as reads
 use Rattle.peel_gates.proofs.ends.ended.Lts as lts
 use Rattle.peel_rules.proofs.report.StuckReport.none.Reads as none-reads
-use Rattle.peel_rules.proofs.report.StuckReport.of.Reads as of-reads
 
--- src/ends.rt:80:21
-of-requires : tie.Need-of-requires
-of-requires c κs = search needs
+report-of-requires : tie.Need-report-of-requires
+report-of-requires c κs = search needs
 
--- src/ends.rt:78:9
 returns : tie.Need-returns
-returns c = simp (lt-ltb _ _ (c .before .if1 .taken)) (ap (λ (r : StuckReport). record { answer = Stuck (c .before .before .args .peeled); report = r }) (c .of .ensures))
+returns c = simp (lt-ltb _ _ (c .before .if1 .taken)) (ap (λ (r : StuckReport). record { answer = Stuck (c .before .before .args .peeled); report = r }) (c .report-of .ensures))
 
--- src/ends.rt:85:17
 none-requires : tie.Need-none-requires
 none-requires c κs = search needs
 
--- src/ends.rt:73:1
 returns-2 : tie.Need-returns-2
 returns-2 c = simp (le-ltb _ _ (c .before .if1 .left)) (ap (λ (r : StuckReport). record { answer = Solved; report = r }) (c .none .ensures))
 
 pub ended-spec : {M : Type 1} → statement M
-ended-spec = tie.close (tie.spec of-requires returns none-requires returns-2)
+ended-spec = tie.close (tie.spec report-of-requires returns none-requires returns-2)

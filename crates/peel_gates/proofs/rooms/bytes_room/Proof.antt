@@ -6,15 +6,12 @@ use Rattle.peel_gates.proofs.rooms.bytes_room.Reads as reads
 use Rattle.peel_gates.proofs.rooms.bytes_room.Lts as lts
 use Rattle.answers.proofs.peel_high_bytes.Reads as peel-high-bytes-reads
 
--- src/ends.rt:36:9
 peel-high-bytes-requires : tie.Need-peel-high-bytes-requires
 peel-high-bytes-requires c κs = search needs
 
--- src/ends.rt:36:9
 returns : tie.Need-returns
 returns c = rw (c .before .if1 .taken) (c .peel-high-bytes .ensures)
 
--- src/ends.rt:31:1
 returns-2 : tie.Need-returns-2
 returns-2 c = search needs
 

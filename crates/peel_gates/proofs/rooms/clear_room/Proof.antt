@@ -11,31 +11,24 @@ use Rattle.areas.proofs.zero.zero_numbers.Reads as zero-numbers-reads
 use Rattle.peel_gates.proofs.rooms.bytes_room.Reads as bytes-room-reads
 use Rattle.peel_gates.proofs.rooms.numbers_room.Reads as numbers-room-reads
 
--- src/ends.rt:56:30
 numbers-room-requires : tie.Need-numbers-room-requires
 numbers-room-requires c κs = search needs
 
--- src/ends.rt:56:5
 zero-numbers-requires : tie.Need-zero-numbers-requires
 zero-numbers-requires c κs = search needs
 
--- src/ends.rt:57:26
 bytes-room-requires : tie.Need-bytes-room-requires
 bytes-room-requires c κs = search needs
 
--- src/ends.rt:57:5
 zero-bytes-requires : tie.Need-zero-bytes-requires
 zero-bytes-requires c κs = search needs
 
--- src/ends.rt:52:1
 same-length : tie.Need-same-length
 same-length c = search needs
 
--- src/ends.rt:52:1
 same-length-2 : tie.Need-same-length-2
 same-length-2 c = search needs
 
--- src/ends.rt:52:1
 returns : tie.Need-returns
 returns c = record { numbers-left = c .before .before .before .before .before .before .before .zero-numbers .ensures ∙ zeroed-cleared _ (c .before .before .before .before .before .before .before .before .numbers-room .ensures); bytes-left = c .before .before .zero-bytes .ensures ∙ zeroed-cleared _ (c .before .before .before .bytes-room .ensures) }
 

@@ -9,23 +9,18 @@ use Rattle.peel_gates.proofs.rooms.empty_graph.Lts as lts
 use Rattle.areas.proofs.zero.zero_bytes.Reads as zero-bytes-reads
 use Rattle.areas.proofs.zero.zero_numbers.Reads as zero-numbers-reads
 
--- src/ends.rt:47:5
 zero-numbers-requires : tie.Need-zero-numbers-requires
 zero-numbers-requires c κs = search needs
 
--- src/ends.rt:48:5
 zero-bytes-requires : tie.Need-zero-bytes-requires
 zero-bytes-requires c κs = search needs
 
--- src/ends.rt:42:1
 same-length : tie.Need-same-length
 same-length c = search needs
 
--- src/ends.rt:42:1
 same-length-2 : tie.Need-same-length-2
 same-length-2 c = search needs
 
--- src/ends.rt:42:1
 returns : tie.Need-returns
 returns c = (c .before .before .before .before .before .before .zero-numbers .ensures ∙ zeroed-cleared _ refl, c .before .before .zero-bytes .ensures ∙ zeroed-cleared _ refl)
 

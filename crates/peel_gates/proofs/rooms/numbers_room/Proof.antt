@@ -7,19 +7,15 @@ use Rattle.peel_gates.proofs.rooms.numbers_room.Lts as lts
 use Rattle.answers.proofs.peel_high_numbers.Reads as peel-high-numbers-reads
 use Rattle.answers.proofs.peel_low_numbers.Reads as peel-low-numbers-reads
 
--- src/ends.rt:26:9
 peel-high-numbers-requires : tie.Need-peel-high-numbers-requires
 peel-high-numbers-requires c κs = search needs
 
--- src/ends.rt:26:9
 returns : tie.Need-returns
 returns c = rw (c .before .if1 .taken) (c .peel-high-numbers .ensures)
 
--- src/ends.rt:28:5
 peel-low-numbers-requires : tie.Need-peel-low-numbers-requires
 peel-low-numbers-requires c κs = search needs
 
--- src/ends.rt:21:1
 returns-2 : tie.Need-returns-2
 returns-2 c = rw (c .before .if1 .left) (c .peel-low-numbers .ensures)
 

@@ -16,67 +16,51 @@ use Rattle.peel_gates.proofs.rooms.bytes_room.Reads as bytes-room-reads
 use Rattle.peel_gates.proofs.rooms.numbers_room.Reads as numbers-room-reads
 use Rattle.peel_gates.proofs.rules.shut.Reads as shut-reads
 
--- src/rules.rt:46:9
 shut-requires : tie.Need-shut-requires
 shut-requires c κs = search needs
 
--- src/rules.rt:46:9
 returns : tie.Need-returns
 returns c = simp (lt-leb _ _ (c .before .if1 .taken)) (c .shut .ensures)
 
--- src/rules.rt:49:9
 shut-requires-2 : tie.Need-shut-requires-2
 shut-requires-2 c κs = search needs
 
--- src/rules.rt:49:9
 returns-2 : tie.Need-returns-2
 returns-2 c = simp (le-leb _ _ (c .before .before .if1 .left), lt-leb _ _ (c .before .if2 .taken)) (c .shut2 .ensures)
 
--- src/rules.rt:52:9
 shut-requires-3 : tie.Need-shut-requires-3
 shut-requires-3 c κs = search needs
 
--- src/rules.rt:52:9
 returns-3 : tie.Need-returns-3
 returns-3 c = simp (le-leb _ _ (c .before .before .before .if1 .left), le-leb _ _ (c .before .before .if2 .left), lt-ltb _ _ (c .before .if3 .taken)) (c .shut3 .ensures)
 
--- src/rules.rt:55:9
 shut-requires-4 : tie.Need-shut-requires-4
 shut-requires-4 c κs = search needs
 
--- src/rules.rt:55:9
 returns-4 : tie.Need-returns-4
 returns-4 c = simp (le-leb _ _ (c .before .before .before .before .if1 .left), le-leb _ _ (c .before .before .before .if2 .left), le-ltb _ _ (c .before .before .if3 .left), ne-eqb _ _ (c .before .if4 .taken)) (c .shut4 .ensures)
 
--- src/rules.rt:57:24
 numbers-room-requires : tie.Need-numbers-room-requires
 numbers-room-requires c κs = search needs
 
--- src/rules.rt:58:9
 shut-requires-5 : tie.Need-shut-requires-5
 shut-requires-5 c κs = search needs
 
--- src/rules.rt:58:9
 returns-5 : tie.Need-returns-5
 returns-5 c = simp (le-leb _ _ (c .before .before .before .before .before .before .if1 .left), le-leb _ _ (c .before .before .before .before .before .if2 .left), le-ltb _ _ (c .before .before .before .before .if3 .left), eq-eqb _ _ (c .before .before .before .if4 .left), ← c .before .before .numbers-room .ensures, lt-leb _ _ (c .before .if5 .taken)) (c .shut5 .ensures)
 
--- src/rules.rt:60:22
 bytes-room-requires : tie.Need-bytes-room-requires
 bytes-room-requires c κs = search needs
 
--- src/rules.rt:61:9
 shut-requires-6 : tie.Need-shut-requires-6
 shut-requires-6 c κs = search needs
 
--- src/rules.rt:61:9
 returns-6 : tie.Need-returns-6
 returns-6 c = simp (le-leb _ _ (c .before .before .before .before .before .before .before .before .if1 .left), le-leb _ _ (c .before .before .before .before .before .before .before .if2 .left), le-ltb _ _ (c .before .before .before .before .before .before .if3 .left), eq-eqb _ _ (c .before .before .before .before .before .if4 .left), ← c .before .before .before .before .numbers-room .ensures, le-leb _ _ (c .before .before .before .if5 .left), ← c .before .before .bytes-room .ensures, lt-leb _ _ (c .before .if6 .taken)) (c .shut6 .ensures)
 
--- src/rules.rt:67:21
 none-requires : tie.Need-none-requires
 none-requires c κs = search needs
 
--- src/rules.rt:42:1
 returns-7 : tie.Need-returns-7
 returns-7 c = simp (le-leb _ _ (c .before .before .before .before .before .before .before .before .if1 .left), le-leb _ _ (c .before .before .before .before .before .before .before .if2 .left), le-ltb _ _ (c .before .before .before .before .before .before .if3 .left), eq-eqb _ _ (c .before .before .before .before .before .if4 .left), ← c .before .before .before .before .numbers-room .ensures, le-leb _ _ (c .before .before .before .if5 .left), ← c .before .before .bytes-room .ensures, le-leb _ _ (c .before .if6 .left)) (ap (λ (r : StuckReport). record { opened = true; refusal = record { answer = Solved; report = r } }) (c .none .ensures))
 

@@ -12,11 +12,9 @@ use Rattle.peel_gates.proofs.rules.shut.Reads as reads
 use Rattle.peel_gates.proofs.rules.shut.Lts as lts
 use Rattle.peel_rules.proofs.report.StuckReport.none.Reads as none-reads
 
--- src/rules.rt:36:21
 none-requires : tie.Need-none-requires
 none-requires c κs = search needs
 
--- src/rules.rt:29:1
 returns : tie.Need-returns
 returns c = ap (λ (r : StuckReport). record { opened = false; refusal = record { answer = c .before .args .answer; report = r } }) (c .none .ensures)
 

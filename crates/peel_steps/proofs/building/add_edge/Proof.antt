@@ -8,55 +8,42 @@ use Rattle.peel_steps.proofs.building.add_edge.Lts as lts
 use Rattle.peel_steps.proofs.building.lower.Reads as lower-reads
 use Rattle.peeling.proofs.incidence.add_at.Reads as add-at-reads
 
--- src/building.rt:22:20
 cast-t12 : tie.Need-cast-t12
 cast-t12 c = search needs
 
--- src/building.rt:23:9
 add-at-requires : tie.Need-add-at-requires
 add-at-requires c κs = search needs
 
--- src/building.rt:24:9
 add-at-requires-2 : tie.Need-add-at-requires-2
 add-at-requires-2 c κs = search needs
 
--- src/building.rt:25:9
 add-at-requires-3 : tie.Need-add-at-requires-3
 add-at-requires-3 c κs = search needs
 
--- src/building.rt:28:13
 lower-requires : tie.Need-lower-requires
 lower-requires c κs = search needs
 
--- src/building.rt:29:13
 lower-requires-2 : tie.Need-lower-requires-2
 lower-requires-2 c κs = search needs
 
--- src/building.rt:30:9
 lower-requires-3 : tie.Need-lower-requires-3
 lower-requires-3 c κs = search needs
 
--- src/building.rt:30:9
 same-length : tie.Need-same-length
 same-length c = search needs
 
--- src/building.rt:30:9
 same-length-2 : tie.Need-same-length-2
 same-length-2 c = search needs
 
--- src/building.rt:30:9
 returns : tie.Need-returns
 returns c = (edge-noted _ _ _ _ _ _ _ (c .before .before .before .before .before .before .before .before .before .before .before .before .before .before .before .before .before .before .before .before .before .before .add-at .ensures .0) (c .before .before .before .before .before .before .before .before .before .before .before .before .before .before .before .before .before .before .before .before .before .before .add-at .ensures .1) (c .before .before .before .before .before .before .before .before .before .before .before .before .before .before .before .add-at2 .ensures .0) (c .before .before .before .before .before .before .before .before .before .before .before .before .before .before .before .add-at2 .ensures .1) (c .before .before .before .before .before .before .before .before .add-at3 .ensures .0) (c .before .before .before .before .before .before .before .before .add-at3 .ensures .1) _ _ _ (c .before .before .lower .ensures) (c .before .lower2 .ensures) (c .lower3 .ensures), edge-added _ _ _ _ _ _ (c .before .before .before .before .before .before .before .before .before .before .before .before .before .before .before .before .before .before .before .before .before .before .before .before .before .before .before .args .low) (c .before .before .before .before .before .before .before .before .before .before .before .before .before .before .before .before .before .before .before .before .before .before .add-at .ensures .0) (c .before .before .before .before .before .before .before .before .before .before .before .before .before .before .before .before .before .before .before .before .before .before .add-at .ensures .1) (c .before .before .before .before .before .before .before .before .before .before .before .before .before .before .before .add-at2 .ensures .0) (c .before .before .before .before .before .before .before .before .before .before .before .before .before .before .before .add-at2 .ensures .1) (c .before .before .before .before .before .before .before .before .add-at3 .ensures .0) (c .before .before .before .before .before .before .before .before .add-at3 .ensures .1))
 
--- src/building.rt:18:1
 same-length-3 : tie.Need-same-length-3
 same-length-3 c = search needs
 
--- src/building.rt:18:1
 same-length-4 : tie.Need-same-length-4
 same-length-4 c = search needs
 
--- src/building.rt:18:1
 returns-2 : tie.Need-returns-2
 returns-2 c = (none-noted _ _ _ _ _ _ _ (c .before .before .before .before .before .before .before .before .before .before .before .before .before .before .before .before .before .before .before .add-at .ensures .0) (c .before .before .before .before .before .before .before .before .before .before .before .before .before .before .before .before .before .before .before .add-at .ensures .1) (c .before .before .before .before .before .before .before .before .before .before .before .before .add-at2 .ensures .0) (c .before .before .before .before .before .before .before .before .before .before .before .before .add-at2 .ensures .1) (c .before .before .before .before .before .add-at3 .ensures .0) (c .before .before .before .before .before .add-at3 .ensures .1) (c .if1 .left), edge-added _ _ _ _ _ _ (c .before .before .before .before .before .before .before .before .before .before .before .before .before .before .before .before .before .before .before .before .before .before .before .before .args .low) (c .before .before .before .before .before .before .before .before .before .before .before .before .before .before .before .before .before .before .before .add-at .ensures .0) (c .before .before .before .before .before .before .before .before .before .before .before .before .before .before .before .before .before .before .before .add-at .ensures .1) (c .before .before .before .before .before .before .before .before .before .before .before .before .add-at2 .ensures .0) (c .before .before .before .before .before .before .before .before .before .before .before .before .add-at2 .ensures .1) (c .before .before .before .before .before .add-at3 .ensures .0) (c .before .before .before .before .before .add-at3 .ensures .1))
 

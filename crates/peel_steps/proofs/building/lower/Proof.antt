@@ -7,19 +7,15 @@ use Rattle.peel_steps.proofs.building.lower.Reads as reads
 use Rattle.peel_steps.proofs.building.lower.Lts as lts
 use Rattle.peel_steps.proofs.index.wide.Reads as wide-reads
 
--- src/building.rt:39:9
 wide-requires : tie.Need-wide-requires
 wide-requires c κs = search needs
 
--- src/building.rt:42:13
 returns : tie.Need-returns
 returns c = lower-here _ _ (c .before .if1 .taken) (c .before .before .wide .ensures) (c .if2 .taken)
 
--- src/building.rt:36:1
 returns-2 : tie.Need-returns-2
 returns-2 c = lower-before _ _ (c .before .if1 .taken) (c .before .before .wide .ensures) (c .if2 .left)
 
--- src/building.rt:36:1
 returns-3 : tie.Need-returns-3
 returns-3 c = rw (c .if1 .left)
 

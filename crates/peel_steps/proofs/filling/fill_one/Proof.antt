@@ -10,59 +10,45 @@ use Rattle.peel_steps.proofs.sides.first_of.Reads as first-of-reads
 use Rattle.peel_steps.proofs.sides.second_of.Reads as second-of-reads
 use Rattle.peel_steps.proofs.sides.vertex_at.Reads as vertex-at-reads
 
--- src/filling.rt:15:13
 vertex-at-requires : tie.Need-vertex-at-requires
 vertex-at-requires c κs = search needs
 
--- src/filling.rt:15:13
 cast-v : tie.Need-cast-v
 cast-v c = search needs
 
--- src/filling.rt:16:13
 first-of-requires : tie.Need-first-of-requires
 first-of-requires c κs = search needs
 
--- src/filling.rt:16:13
 cast-x : tie.Need-cast-x
 cast-x c = search needs
 
--- src/filling.rt:17:13
 second-of-requires : tie.Need-second-of-requires
 second-of-requires c κs = search needs
 
--- src/filling.rt:17:13
 cast-y : tie.Need-cast-y
 cast-y c = search needs
 
--- src/filling.rt:18:30
 mul-solution : tie.Need-mul-solution
 mul-solution c = search needs
 
--- src/filling.rt:18:30
 slice-read-solution : tie.Need-slice-read-solution
 slice-read-solution c = first-in _ (c .before .before .before .before .before .before .before .before .pre) (c .before .before .before .before .first-of .ensures)
 
--- src/filling.rt:18:44
 mul-solution-2 : tie.Need-mul-solution-2
 mul-solution-2 c = search needs
 
--- src/filling.rt:18:44
 slice-read-solution-2 : tie.Need-slice-read-solution-2
 slice-read-solution-2 c = second-in _ (c .before .before .before .before .before .before .before .before .before .pre) (c .before .before .before .second-of .ensures)
 
--- src/filling.rt:18:5
 mul-solution-3 : tie.Need-mul-solution-3
 mul-solution-3 c = search needs
 
--- src/filling.rt:18:5
 slice-write-solution : tie.Need-slice-write-solution
 slice-write-solution c = pivot-in _ (c .before .before .before .before .before .before .before .before .before .before .pre) (c .before .before .before .before .before .before .before .before .vertex-at .ensures)
 
--- src/filling.rt:11:1
 same-length : tie.Need-same-length
 same-length c = search needs
 
--- src/filling.rt:11:1
 returns : tie.Need-returns
 returns c = filled _ _ _ (c .before .before .before .before .before .before .before .before .vertex-at .ensures) (c .before .before .before .before .before .before .first-of .ensures) (c .before .before .before .before .second-of .ensures)
 

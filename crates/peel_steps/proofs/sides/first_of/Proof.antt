@@ -7,11 +7,9 @@ use Rattle.peel_steps.proofs.sides.first_of.Tie as tie
 use Rattle.peel_steps.proofs.sides.first_of.Reads as reads
 use Rattle.peel_steps.proofs.sides.first_of.Lts as lts
 
--- src/sides.rt:24:9
 returns : tie.Need-returns
 returns c = sym (at-zero _ _ (c .before .if1 .taken) .first-is)
 
--- src/sides.rt:20:1
 returns-2 : tie.Need-returns-2
 returns-2 c = sym (not-zero _ _ (c .before .if1 .left) .first-is)
 

@@ -8,11 +8,9 @@ use Rattle.peel_steps.proofs.sides.first_side.Tie as tie
 use Rattle.peel_steps.proofs.sides.first_side.Reads as reads
 use Rattle.peel_steps.proofs.sides.first_side.Lts as lts
 
--- src/sides.rt:43:9
 returns : tie.Need-returns
 returns c = sym (at-zero _ noEdge (c .if1 .taken) .first-no)
 
--- src/sides.rt:39:1
 returns-2 : tie.Need-returns-2
 returns-2 c = sym (not-zero _ noEdge (c .if1 .left) .first-no)
 

@@ -7,11 +7,9 @@ use Rattle.peel_steps.proofs.sides.second_of.Tie as tie
 use Rattle.peel_steps.proofs.sides.second_of.Reads as reads
 use Rattle.peel_steps.proofs.sides.second_of.Lts as lts
 
--- src/sides.rt:33:9
 returns : tie.Need-returns
 returns c = sym (below-two _ _ (c .before .if1 .taken) .second-is)
 
--- src/sides.rt:29:1
 returns-2 : tie.Need-returns-2
 returns-2 c = sym (from-two _ _ (c .before .if1 .left) .second-is)
 

@@ -8,11 +8,9 @@ use Rattle.peel_steps.proofs.sides.second_side.Tie as tie
 use Rattle.peel_steps.proofs.sides.second_side.Reads as reads
 use Rattle.peel_steps.proofs.sides.second_side.Lts as lts
 
--- src/sides.rt:52:9
 returns : tie.Need-returns
 returns c = sym (below-two _ noEdge (c .if1 .taken) .second-no)
 
--- src/sides.rt:48:1
 returns-2 : tie.Need-returns-2
 returns-2 c = sym (from-two _ noEdge (c .if1 .left) .second-no)
 

@@ -7,15 +7,12 @@ use Rattle.peel_steps.proofs.sides.vertex_at.Tie as tie
 use Rattle.peel_steps.proofs.sides.vertex_at.Reads as reads
 use Rattle.peel_steps.proofs.sides.vertex_at.Lts as lts
 
--- src/sides.rt:11:9
 returns : tie.Need-returns
 returns c = sym (at-zero _ _ (c .before .if1 .taken) .pivot-is)
 
--- src/sides.rt:14:9
 returns-2 : tie.Need-returns-2
 returns-2 c = sym (pivot-one _ _ (c .before .if2 .taken))
 
--- src/sides.rt:7:1
 returns-3 : tie.Need-returns-3
 returns-3 c = sym (pivot-two _ _ (c .before .before .if1 .left) (c .before .if2 .left))
 

@@ -7,39 +7,30 @@ use Rattle.peel_turns.proofs.visiting.keep_vertex.Reads as reads
 use Rattle.peel_turns.proofs.visiting.keep_vertex.Lts as lts
 use Rattle.stack_steps.proofs.push_upper_at.Reads as push-upper-at-reads
 
--- src/visiting.rt:131:16
 sub-push-upper-at : tie.Need-sub-push-upper-at
 sub-push-upper-at c = search needs
 
--- src/visiting.rt:133:35
 add-push-upper-at : tie.Need-add-push-upper-at
 add-push-upper-at c = search needs
 
--- src/visiting.rt:133:19
 mul-push-upper-at : tie.Need-mul-push-upper-at
 mul-push-upper-at c = search needs
 
--- src/visiting.rt:133:19
 sub-push-upper-at-2 : tie.Need-sub-push-upper-at-2
 sub-push-upper-at-2 c = search needs
 
--- src/visiting.rt:133:19
 part-push-upper-at-start : tie.Need-part-push-upper-at-start
 part-push-upper-at-start c = search needs
 
--- src/visiting.rt:133:19
 part-push-upper-at-end : tie.Need-part-push-upper-at-end
 part-push-upper-at-end c = search needs
 
--- src/visiting.rt:133:5
 push-upper-at-requires : tie.Need-push-upper-at-requires
 push-upper-at-requires c κs = search needs
 
--- src/visiting.rt:125:1
 same-length : tie.Need-same-length
 same-length c = search needs
 
--- src/visiting.rt:125:1
 returns : tie.Need-returns
 returns c =
     let at = c .before .before .before .before .before in

@@ -10,43 +10,33 @@ use Rattle.peeling.proofs.incidence.degree_at.Reads as degree-at-reads
 use Rattle.peeling.proofs.incidence.number_at.Reads as number-at-reads
 use Rattle.peel_steps.proofs.index.wide.Reads as wide-reads
 
--- src/visiting.rt:80:9
 returns : tie.Need-returns
 returns c = next-none (c .before .before .before .args .n) (c .before .before .before .args .stack) (c .before .before .before .args .numbers .now) (c .before .before .before .args .bytes .now) (c .if1 .taken)
 
--- src/visiting.rt:82:33
 sub-t7 : tie.Need-sub-t7
 sub-t7 c = search needs
 
--- src/visiting.rt:82:28
 add-t8 : tie.Need-add-t8
 add-t8 c = search needs
 
--- src/visiting.rt:82:20
 mul-t9 : tie.Need-mul-t9
 mul-t9 c = search needs
 
--- src/visiting.rt:82:20
 shared-slice-read-t11 : tie.Need-shared-slice-read-t11
 shared-slice-read-t11 c = search needs
 
--- src/visiting.rt:83:8
 degree-at-requires : tie.Need-degree-at-requires
 degree-at-requires c κs = let v = c .before .before .before .before .pre .top< (omega (arith, c .before .if1 .left)) in omega (arith, v, c .before .before .before .before .pre .holds .room-b)
 
--- src/visiting.rt:84:9
 returns-2 : tie.Need-returns-2
 returns-2 c = next-idle (c .before .before .before .before .before .before .args .n) (c .before .before .before .before .before .before .args .stack) (c .before .before .before .before .before .before .args .numbers .now) (c .before .before .before .before .before .before .args .bytes .now) (c .before .before .before .if1 .left) (c .before .degree-at .ensures) (c .if2 .taken)
 
--- src/visiting.rt:86:10
 number-at-requires : tie.Need-number-at-requires
 number-at-requires c κs = let v = c .before .before .before .before .before .before .pre .top< (omega (arith, c .before .before .before .if1 .left)) in omega (arith, v, c .before .before .before .before .before .before .pre .holds .room)
 
--- src/visiting.rt:86:5
 wide-requires : tie.Need-wide-requires
 wide-requires c κs = search needs
 
--- src/visiting.rt:75:1
 returns-3 : tie.Need-returns-3
 returns-3 c = next-busy (c .before .before .before .before .before .before .before .before .args .n) (c .before .before .before .before .before .before .before .before .args .stack) (c .before .before .before .before .before .before .before .before .args .numbers .now) (c .before .before .before .before .before .before .before .before .args .bytes .now) (c .before .before .before .before .before .if1 .left) (c .before .before .before .degree-at .ensures) (c .before .before .if2 .left) (c .wide .ensures) (c .before .number-at .ensures)
 

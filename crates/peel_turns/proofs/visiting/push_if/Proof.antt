@@ -7,31 +7,24 @@ use Rattle.peel_turns.proofs.visiting.push_if.Reads as reads
 use Rattle.peel_turns.proofs.visiting.push_if.Lts as lts
 use Rattle.stack_steps.proofs.fast_push.Reads as fast-push-reads
 
--- src/visiting.rt:45:31
 mul-fast-push : tie.Need-mul-fast-push
 mul-fast-push c = search needs
 
--- src/visiting.rt:45:31
 sub-fast-push : tie.Need-sub-fast-push
 sub-fast-push c = search needs
 
--- src/visiting.rt:45:31
 part-fast-push-start : tie.Need-part-fast-push-start
 part-fast-push-start c = search needs
 
--- src/visiting.rt:45:31
 part-fast-push-end : tie.Need-part-fast-push-end
 part-fast-push-end c = search needs
 
--- src/visiting.rt:45:13
 fast-push-requires : tie.Need-fast-push-requires
 fast-push-requires c κs = search needs
 
--- src/visiting.rt:46:9
 same-length : tie.Need-same-length
 same-length c = search needs
 
--- src/visiting.rt:46:9
 returns : tie.Need-returns
 returns c =
     let at = c .before .before .before .before .before .before in
@@ -41,7 +34,6 @@ returns c =
       push-from (at .args .numbers .now) _ _ (at .args .n) (at .args .v .0) (at .pre) (pushed .1),
     )
 
--- src/visiting.rt:35:1
 returns-2 : tie.Need-returns-2
 returns-2 c = search needs
 

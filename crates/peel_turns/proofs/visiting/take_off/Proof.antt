@@ -15,43 +15,33 @@ use Rattle.peel_steps.proofs.sides.second_side.Reads as second-side-reads
 use Rattle.peel_turns.proofs.visiting.visit.Reads as visit-reads
 use Rattle.peeling.proofs.incidence.zero_at.Reads as zero-at-reads
 
--- src/visiting.rt:51:9
 first-of-requires : tie.Need-first-of-requires
 first-of-requires c κs = search needs
 
--- src/visiting.rt:52:9
 second-of-requires : tie.Need-second-of-requires
 second-of-requires c κs = search needs
 
--- src/visiting.rt:53:9
 first-side-requires : tie.Need-first-side-requires
 first-side-requires c κs = search needs
 
--- src/visiting.rt:54:9
 second-side-requires : tie.Need-second-side-requires
 second-side-requires c κs = search needs
 
--- src/visiting.rt:55:5
 zero-at-requires : tie.Need-zero-at-requires
 zero-at-requires c κs = search needs
 
--- src/visiting.rt:56:9
 visit-requires : tie.Need-visit-requires
 visit-requires c κs = first-visits (c .before .before .before .before .before .before .before .before .before .before .before .before .pre) _ (c .before .before .before .before .zero-at .ensures) _ _ _ _ (c .before .before .before .before .before .before .before .before .before .first-of .ensures) (c .before .before .before .before .before .before .before .before .second-of .ensures) (c .before .before .before .before .before .before .before .first-side .ensures) (c .before .before .before .before .before .before .second-side .ensures)
 
--- src/visiting.rt:57:5
 visit-requires-2 : tie.Need-visit-requires-2
 visit-requires-2 c κs = second-visits (c .before .before .before .before .before .before .before .before .before .before .before .before .before .before .before .before .before .before .before .pre) _ (c .before .before .before .before .before .before .before .before .before .before .before .zero-at .ensures) _ _ _ _ (c .before .before .before .before .before .before .before .before .before .before .before .before .before .before .before .before .first-of .ensures) (c .before .before .before .before .before .before .before .before .before .before .before .before .before .before .before .second-of .ensures) (c .before .before .before .before .before .before .before .before .before .before .before .before .before .before .first-side .ensures) (c .before .before .before .before .before .before .before .before .before .before .before .before .before .second-side .ensures) _ _ _ (c .before .before .before .before .before .before .visit .ensures)
 
--- src/visiting.rt:47:1
 same-length : tie.Need-same-length
 same-length c = search needs
 
--- src/visiting.rt:47:1
 same-length-2 : tie.Need-same-length-2
 same-length-2 c = search needs
 
--- src/visiting.rt:47:1
 returns : tie.Need-returns
 returns c = taken-off (c .before .before .before .before .before .before .before .before .before .before .before .before .before .before .before .before .before .before .before .before .before .before .before .before .pre) _ (c .before .before .before .before .before .before .before .before .before .before .before .before .before .before .before .before .zero-at .ensures) _ _ _ _ (c .before .before .before .before .before .before .before .before .before .before .before .before .before .before .before .before .before .before .before .before .before .first-of .ensures) (c .before .before .before .before .before .before .before .before .before .before .before .before .before .before .before .before .before .before .before .before .second-of .ensures) (c .before .before .before .before .before .before .before .before .before .before .before .before .before .before .before .before .before .before .before .first-side .ensures) (c .before .before .before .before .before .before .before .before .before .before .before .before .before .before .before .before .before .before .second-side .ensures) _ _ _ (c .before .before .before .before .before .before .before .before .before .before .before .visit .ensures) _ _ _ (c .before .before .before .before .visit2 .ensures)
 

@@ -13,75 +13,57 @@ use Rattle.peeling.proofs.incidence.degree_at.Reads as degree-at-reads
 use Rattle.peeling.proofs.incidence.number_at.Reads as number-at-reads
 use Rattle.peeling.proofs.incidence.side_at.Reads as side-at-reads
 
--- src/visiting.rt:94:15
 sub-top : tie.Need-sub-top
 sub-top c = search needs
 
--- src/visiting.rt:95:28
 add-t14 : tie.Need-add-t14
 add-t14 c = search needs
 
--- src/visiting.rt:95:20
 mul-t15 : tie.Need-mul-t15
 mul-t15 c = search needs
 
--- src/visiting.rt:95:20
 slice-read-t17 : tie.Need-slice-read-t17
 slice-read-t17 c = search needs
 
--- src/visiting.rt:96:8
 degree-at-requires : tie.Need-degree-at-requires
 degree-at-requires c κs = let v = turn-v (c .before .before .before .before .before .pre) in omega (arith, v, c .before .before .before .before .before .pre .tops .holds .room-b)
 
--- src/visiting.rt:97:13
 next-edge-requires : tie.Need-next-edge-requires
 next-edge-requires c κs = c .before .before .before .before .before .before .before .before .before .pre .next<
 
--- src/visiting.rt:98:9
 same-length : tie.Need-same-length
 same-length c = search needs
 
--- src/visiting.rt:98:9
 same-length-2 : tie.Need-same-length-2
 same-length-2 c = search needs
 
--- src/visiting.rt:98:9
 returns : tie.Need-returns
 returns c = skipped-turn (c .before .before .before .before .before .before .before .before .before .before .pre) (c .before .before .before .before .degree-at .ensures) (c .before .before .before .if1 .taken) (c .next-edge .ensures)
 
--- src/visiting.rt:104:9
 number-at-requires : tie.Need-number-at-requires
 number-at-requires c κs = let v = turn-v (c .before .before .before .before .before .before .before .before .pre) in omega (arith, v, c .before .before .before .before .before .before .before .before .pre .tops .holds .room)
 
--- src/visiting.rt:105:9
 side-at-requires : tie.Need-side-at-requires
 side-at-requires c κs = let v = turn-v (c .before .before .before .before .before .before .before .before .before .before .pre) in omega (arith, v, c .before .before .before .before .before .before .before .before .before .before .pre .tops .holds .room-b)
 
--- src/visiting.rt:106:5
 keep-requires : tie.Need-keep-requires
 keep-requires c κs = (c .before .before .before .before .before .before .before .before .before .before .before .before .before .pre .tops .holds .small, c .before .before .before .before .before .before .before .before .before .before .before .before .before .pre .few, busy-keeps (c .before .before .before .before .before .before .before .before .before .before .before .before .before .pre) (c .before .before .before .before .before .before .before .degree-at .ensures) (c .before .before .before .before .before .before .if1 .left) (c .before .before .before .before .number-at .ensures) (c .before .before .side-at .ensures))
 
--- src/visiting.rt:107:9
 take-off-requires : tie.Need-take-off-requires
 take-off-requires c κs = turn-takes (c .before .before .before .before .before .before .before .before .before .before .before .before .before .before .before .before .before .before .before .before .pre) (c .before .before .before .before .before .before .before .before .before .before .before .before .before .before .degree-at .ensures) (c .before .before .before .before .before .before .before .before .before .before .before .before .before .if1 .left) (c .before .before .before .before .before .before .before .before .before .before .before .number-at .ensures) (c .before .before .before .before .before .before .before .before .before .side-at .ensures) (c .before .before .before .before .before .before .keep .ensures .0) (c .before .before .before .before .before .before .keep .ensures .1)
 
--- src/visiting.rt:108:9
 next-edge-requires-2 : tie.Need-next-edge-requires-2
 next-edge-requires-2 c κs = turn-tops (c .before .before .before .before .before .before .before .before .before .before .before .before .before .before .before .before .before .before .before .before .before .before .before .before .before .before .before .pre) (c .before .before .before .before .before .before .before .before .before .before .before .before .before .before .before .before .before .before .before .before .before .degree-at .ensures) (c .before .before .before .before .before .before .before .before .before .before .before .before .before .before .before .before .before .before .before .before .if1 .left) (c .before .before .before .before .before .before .before .before .before .before .before .before .before .before .before .before .before .before .number-at .ensures) (c .before .before .before .before .before .before .before .before .before .before .before .before .before .before .before .before .side-at .ensures) (c .before .before .before .before .before .before .before .before .before .before .before .before .before .keep .ensures .0) (c .before .before .before .before .before .before .before .before .before .before .before .before .before .keep .ensures .1) (c .before .before .before .before .before .before .take-off .ensures)
 
--- src/visiting.rt:111:17
 add-t14-2 : tie.Need-add-t14-2
 add-t14-2 c = let k = c .before .before .before .before .before .before .before .before .before .before .before .before .before .before .before .before .before .before .before .before .before .before .before .before .before .before .before .before .before .pre .few in search needs
 
--- src/visiting.rt:90:1
 same-length-3 : tie.Need-same-length-3
 same-length-3 c = long₂ (c .before .before .before .before .before .before .before .before .before .before .before .before .before .before .before .before .before .before .before .before .before .before .before .before .before .before .before .before .before .pre) (c .before .before .before .before .before .before .before .before .before .before .before .before .before .before .before .before .before .before .before .before .before .before .before .degree-at .ensures) (c .before .before .before .before .before .before .before .before .before .before .before .before .before .before .before .before .before .before .before .before .before .before .if1 .left) (c .before .before .before .before .before .before .before .before .before .before .before .before .before .before .before .before .before .before .before .before .number-at .ensures) (c .before .before .before .before .before .before .before .before .before .before .before .before .before .before .before .before .before .before .side-at .ensures) (c .before .before .before .before .before .before .before .before .before .before .before .before .before .before .before .keep .ensures .0) (c .before .before .before .before .before .before .before .before .before .before .before .before .before .before .before .keep .ensures .1) (c .before .before .before .before .before .before .before .before .take-off .ensures)
 
--- src/visiting.rt:90:1
 same-length-4 : tie.Need-same-length-4
 same-length-4 c = long-b₂ (c .before .before .before .before .before .before .before .before .before .before .before .before .before .before .before .before .before .before .before .before .before .before .before .before .before .before .before .before .before .pre) (c .before .before .before .before .before .before .before .before .before .before .before .before .before .before .before .before .before .before .before .before .before .before .before .degree-at .ensures) (c .before .before .before .before .before .before .before .before .before .before .before .before .before .before .before .before .before .before .before .before .before .before .if1 .left) (c .before .before .before .before .before .before .before .before .before .before .before .before .before .before .before .before .before .before .before .before .number-at .ensures) (c .before .before .before .before .before .before .before .before .before .before .before .before .before .before .before .before .before .before .side-at .ensures) (c .before .before .before .before .before .before .before .before .before .before .before .before .before .before .before .keep .ensures .0) (c .before .before .before .before .before .before .before .before .before .before .before .before .before .before .before .keep .ensures .1) (c .before .before .before .before .before .before .before .before .take-off .ensures)
 
--- src/visiting.rt:90:1
 returns-2 : tie.Need-returns-2
 returns-2 c = took-turn (c .before .before .before .before .before .before .before .before .before .before .before .before .before .before .before .before .before .before .before .before .before .before .before .before .before .before .before .before .before .pre) (c .before .before .before .before .before .before .before .before .before .before .before .before .before .before .before .before .before .before .before .before .before .before .before .degree-at .ensures) (c .before .before .before .before .before .before .before .before .before .before .before .before .before .before .before .before .before .before .before .before .before .before .if1 .left) (c .before .before .before .before .before .before .before .before .before .before .before .before .before .before .before .before .before .before .before .before .number-at .ensures) (c .before .before .before .before .before .before .before .before .before .before .before .before .before .before .before .before .before .before .side-at .ensures) (c .before .before .before .before .before .before .before .before .before .before .before .before .before .before .before .keep .ensures .0) (c .before .before .before .before .before .before .before .before .before .before .before .before .before .before .before .keep .ensures .1) (c .before .before .before .before .before .before .before .before .take-off .ensures) (c .before .next-edge2 .ensures)
 

@@ -12,27 +12,21 @@ use Rattle.peel_turns.proofs.visiting.push_if.Reads as push-if-reads
 use Rattle.peeling.proofs.incidence.degree_at.Reads as degree-at-reads
 use Rattle.peeling.proofs.incidence.remove_at.Reads as remove-at-reads
 
--- src/visiting.rt:40:15
 degree-at-requires : tie.Need-degree-at-requires
 degree-at-requires c κs = search needs
 
--- src/visiting.rt:41:9
 push-if-requires : tie.Need-push-if-requires
 push-if-requires c κs = search needs
 
--- src/visiting.rt:42:5
 remove-at-requires : tie.Need-remove-at-requires
 remove-at-requires c κs = search needs
 
--- src/visiting.rt:36:1
 same-length : tie.Need-same-length
 same-length c = search needs
 
--- src/visiting.rt:36:1
 same-length-2 : tie.Need-same-length-2
 same-length-2 c = search needs
 
--- src/visiting.rt:36:1
 returns : tie.Need-returns
 returns c = visited (c .before .before .before .before .before .before .before .before .before .before .before .before .before .before .before .pre) _ _ _ _ _ _ _ (ap (λ (z : ℕ). eqb z 2) (c .before .before .before .before .before .before .before .before .before .before .before .degree-at .ensures)) (c .before .before .before .before .before .before .before .before .before .push-if .ensures .0) (c .before .before .before .before .before .before .before .before .before .push-if .ensures .1) (c .before .before .before .before .remove-at .ensures)
 

@@ -2,14 +2,15 @@
 use mathlib.Core.Path.{_≡_, refl, sym, ap, _∙_, subst}
 use native.Mathlib.Omega.{arith}
 use borrow.Author.Needs.{needs}
-use Rattle.dense.proofs.Lending.{Admitted, admitted-by}
+use Rattle.dense.specs.Fits.{DenseFits}
+use Rattle.dense.proofs.Lending.{dense-kept-sound}
 use Rattle.dense.proofs.Running.{zeroed-length}
 use Rattle.slow_dense.proofs.SlowRunning.{slow-refused, slow-solved, slow-numbers, slow-words, slow-filled}
 use Rattle.slow_dense.proofs.run.solve.Statement.{statement}
 use Rattle.slow_dense.proofs.run.solve.Tie as tie
 
-lent : (s : tie.Start) → Admitted (s .args .n) (s .args .m) (s .args .w) (s .args .rows .now) (s .args .constants .now)
-lent s = admitted-by (s .args .n) (s .args .m) (s .args .w) (s .args .rows .now) (s .args .constants .now) (s .pre .0)
+lent : (s : tie.Start) → DenseFits (s .args .n) (s .args .m) (s .args .w) (s .args .rows .now) (s .args .constants .now)
+lent s = dense-kept-sound (s .args .n) (s .args .m) (s .args .w) (s .args .rows .now) (s .args .constants .now) (s .pre .0)
 
 -- a constant was left
 returns : tie.Need-returns

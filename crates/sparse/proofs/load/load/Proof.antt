@@ -2,7 +2,7 @@
 use mathlib.Core.Path.{_≡_, refl}
 use Prim.Native.Nat.{ℕ, _+_, _-_, _≤_}
 use lib.ListN.{length, drop}
-use Rattle.answers.specs.Sizes.{sparseNumbers, sparseWords}
+use Rattle.answers.specs.Sizes.{rowNumbers, rowWords}
 use Rattle.system.specs.System.{equations}
 use Rattle.sparse.proofs.Loading.{Loading, loading-begin, loading-held, loading-empty, loading-turn, loading-end, equation-read, equation-rising, loaded-all}
 use borrow.Author.Needs.{needs}
@@ -12,7 +12,7 @@ use Rattle.sparse.proofs.load.load.Tie as tie
 
 abbrev Inv-loop : tie.InvT-loop
 Inv-loop n m starts vars constants numbers₀ words₀ i₀ numbers words i =
-    Loading n m (equations m starts vars constants) (drop (sparseNumbers n m) numbers₀) (drop (sparseWords m) words₀) numbers words i × (length numbers ≡ length numbers₀) × (length words ≡ length words₀)
+    Loading n m (equations m starts vars constants) (drop (rowNumbers n m) numbers₀) (drop (rowWords m) words₀) numbers words i × (length numbers ≡ length numbers₀) × (length words ≡ length words₀)
 
 abbrev μ-loop : tie.MeasureT-loop
 μ-loop n m starts vars constants numbers₀ words₀ i₀ numbers words i = m - i

@@ -2,7 +2,7 @@
 use mathlib.Core.Path.{_≡_, refl}
 use Prim.Native.Nat.{ℕ, _+_, _-_, _≤_}
 use lib.ListN.{length, take, drop}
-use Rattle.answers.specs.Sizes.{sparseNumbers, sparseWords}
+use Rattle.answers.specs.Sizes.{rowNumbers, rowWords}
 use Rattle.rows.specs.Picture.{rowsOf}
 use Rattle.sparse_rows.proofs.Rounds.{Reducing, reducing-begin, reducing-held, reducing-stop, reducing-turn, reducing-end}
 use Rattle.sparse_rules.specs.Cancelled.{sparseCancels}
@@ -15,7 +15,7 @@ use Rattle.sparse_rows.proofs.echelon.echelon_form.Tie as tie
 
 abbrev Inv-loop : tie.InvT-loop
 Inv-loop numbers₀ words₀ n m d cancelled₀ i₀ numbers words cancelled i =
-    Reducing n m d (rowsOf n m numbers₀ words₀) (drop (sparseNumbers n m) numbers₀) (drop (sparseWords m) words₀) numbers words i × (length numbers ≡ length numbers₀) × (length words ≡ length words₀) × (i ≤ d)
+    Reducing n m d (rowsOf n m numbers₀ words₀) (drop (rowNumbers n m) numbers₀) (drop (rowWords m) words₀) numbers words i × (length numbers ≡ length numbers₀) × (length words ≡ length words₀) × (i ≤ d)
     × Tally cancelled (aheadRows n m d numbers words i) (sparseCancels (take d (rowsOf n m numbers₀ words₀)))
 
 abbrev μ-loop : tie.MeasureT-loop

@@ -15,43 +15,33 @@ Inv-loop tally row name k₀ k = k ≤ 11
 abbrev μ-loop : tie.MeasureT-loop
 μ-loop tally row name k₀ k = 11 - k
 
--- src/print.rt:33:5
 loop-holds : tie.Need-loop-holds Inv-loop μ-loop
 loop-holds c = search needs
 
--- src/print.rt:34:35
 mul-count-line : tie.Need-mul-count-line Inv-loop μ-loop
 mul-count-line c = search needs
 
--- src/print.rt:34:35
 add-count-line : tie.Need-add-count-line Inv-loop μ-loop
 add-count-line c = search needs
 
--- src/print.rt:34:29
 mul-count-line-2 : tie.Need-mul-count-line-2 Inv-loop μ-loop
 mul-count-line-2 c = search needs
 
--- src/print.rt:34:29
 element-copy-out-count-line : tie.Need-element-copy-out-count-line Inv-loop μ-loop
 element-copy-out-count-line c = search needs
 
--- src/print.rt:34:9
 count-line-requires : tie.Need-count-line-requires Inv-loop μ-loop
 count-line-requires c κs = search needs
 
--- src/print.rt:35:9
 add-k : tie.Need-add-k Inv-loop μ-loop
 add-k c = search needs
 
--- src/print.rt:33:5
 loop-less : tie.Need-loop-less Inv-loop μ-loop
 loop-less c = search needs
 
--- src/print.rt:33:5
 loop-again : tie.Need-loop-again Inv-loop μ-loop
 loop-again c = search needs
 
--- src/print.rt:29:1
 returns : tie.Need-returns Inv-loop μ-loop
 returns c = search needs
 

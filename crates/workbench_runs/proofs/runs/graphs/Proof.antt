@@ -15,31 +15,24 @@ Inv-loop tally₀ seed₀ k₀ tally seed k = k ≤ 1490
 abbrev μ-loop : tie.MeasureT-loop
 μ-loop tally₀ seed₀ k₀ tally seed k = 1490 - k
 
--- src/runs.rt:174:5
 loop-holds : tie.Need-loop-holds Inv-loop μ-loop
 loop-holds c = search needs
 
--- src/runs.rt:175:28
 add-graph : tie.Need-add-graph Inv-loop μ-loop
 add-graph c = search needs
 
--- src/runs.rt:175:9
 graph-requires : tie.Need-graph-requires Inv-loop μ-loop
 graph-requires c κs = search needs
 
--- src/runs.rt:176:9
 add-k : tie.Need-add-k Inv-loop μ-loop
 add-k c = search needs
 
--- src/runs.rt:174:5
 loop-less : tie.Need-loop-less Inv-loop μ-loop
 loop-less c = search needs
 
--- src/runs.rt:174:5
 loop-again : tie.Need-loop-again Inv-loop μ-loop
 loop-again c = search needs
 
--- src/runs.rt:172:1
 returns : tie.Need-returns Inv-loop μ-loop
 returns c = search needs
 

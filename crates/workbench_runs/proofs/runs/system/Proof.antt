@@ -16,91 +16,69 @@ use Rattle.workbench_runs.proofs.runs.draw_span.Reads as draw-span-read
 use Rattle.workbench_runs.proofs.runs.row_words.Reads as row-words-reads
 use Rattle.workbench_runs.proofs.runs.spoil_unless.Reads as spoil-unless-reads
 
--- src/runs.rt:104:18
 draw-plant-requires : tie.Need-draw-plant-requires
 draw-plant-requires c κs = search needs
 
--- src/runs.rt:105:9
 draw-span-requires : tie.Need-draw-span-requires
 draw-span-requires c κs = search needs
 
--- src/runs.rt:106:9
 row-words-requires : tie.Need-row-words-requires
 row-words-requires c κs = search needs
 
--- src/runs.rt:114:9
 slice-aggregate-draw-equations : tie.Need-slice-aggregate-draw-equations
 slice-aggregate-draw-equations c = search needs
 
--- src/runs.rt:115:9
 slice-aggregate-draw-equations-2 : tie.Need-slice-aggregate-draw-equations-2
 slice-aggregate-draw-equations-2 c = search needs
 
--- src/runs.rt:116:9
 slice-aggregate-draw-equations-3 : tie.Need-slice-aggregate-draw-equations-3
 slice-aggregate-draw-equations-3 c = search needs
 
--- src/runs.rt:117:9
 slice-aggregate-draw-equations-4 : tie.Need-slice-aggregate-draw-equations-4
 slice-aggregate-draw-equations-4 c = search needs
 
--- src/runs.rt:118:9
 slice-aggregate-draw-equations-5 : tie.Need-slice-aggregate-draw-equations-5
 slice-aggregate-draw-equations-5 c = search needs
 
--- src/runs.rt:107:9
 draw-equations-requires : tie.Need-draw-equations-requires
 draw-equations-requires c κs = let p = (c .before .before .before .before .before .before .before .before .before .before .before) .pre in let e = (c .before .before .before .before .before .before) .row-words .ensures in let h = mul-le-mul (p .1) (e .0) in search needs
 
--- src/runs.rt:120:19
 below-requires : tie.Need-below-requires
 below-requires c κs = search needs
 
--- src/runs.rt:121:36
 slice-aggregate-spoil-unless : tie.Need-slice-aggregate-spoil-unless
 slice-aggregate-spoil-unless c = search needs
 
--- src/runs.rt:121:5
 spoil-unless-requires : tie.Need-spoil-unless-requires
 spoil-unless-requires c κs = search needs
 
--- src/runs.rt:122:16
 add-ends : tie.Need-add-ends
 add-ends c = search needs
 
--- src/runs.rt:129:9
 array-share-prefix-starts : tie.Need-array-share-prefix-starts
 array-share-prefix-starts c = let p = (c .before .before .before .before .before .before .before .before .before .before .before .before .before .before .before .before .before .before .before .before .before .before .before) .pre in let f = (c .before .before .before .before .before .before .before .before .before .before .before) .draw-equations .ensures in search needs
 
--- src/runs.rt:129:9
 slice-aggregate-compare : tie.Need-slice-aggregate-compare
 slice-aggregate-compare c = let p = (c .before .before .before .before .before .before .before .before .before .before .before .before .before .before .before .before .before .before .before .before .before .before .before .before) .pre in let f = (c .before .before .before .before .before .before .before .before .before .before .before .before) .draw-equations .ensures in sym (length-take-le _ _ (omega (arith, p .1)))
 
--- src/runs.rt:130:9
 array-share-prefix-vars : tie.Need-array-share-prefix-vars
 array-share-prefix-vars c = let p = (c .before .before .before .before .before .before .before .before .before .before .before .before .before .before .before .before .before .before .before .before .before .before .before .before) .pre in let f = (c .before .before .before .before .before .before .before .before .before .before .before .before) .draw-equations .ensures in search needs
 
--- src/runs.rt:130:9
 slice-aggregate-compare-2 : tie.Need-slice-aggregate-compare-2
 slice-aggregate-compare-2 c = let p = (c .before .before .before .before .before .before .before .before .before .before .before .before .before .before .before .before .before .before .before .before .before .before .before .before .before) .pre in let f = (c .before .before .before .before .before .before .before .before .before .before .before .before .before) .draw-equations .ensures in sym (length-take-le _ _ (omega (arith, f)))
 
--- src/runs.rt:131:9
 array-share-prefix-constants : tie.Need-array-share-prefix-constants
 array-share-prefix-constants c = let p = (c .before .before .before .before .before .before .before .before .before .before .before .before .before .before .before .before .before .before .before .before .before .before .before .before .before) .pre in let f = (c .before .before .before .before .before .before .before .before .before .before .before .before .before) .draw-equations .ensures in search needs
 
--- src/runs.rt:131:9
 slice-aggregate-compare-3 : tie.Need-slice-aggregate-compare-3
 slice-aggregate-compare-3 c = let p = (c .before .before .before .before .before .before .before .before .before .before .before .before .before .before .before .before .before .before .before .before .before .before .before .before .before .before) .pre in let f = (c .before .before .before .before .before .before .before .before .before .before .before .before .before .before) .draw-equations .ensures in sym (length-take-le _ _ (omega (arith, p .1)))
 
--- src/runs.rt:132:9
 slice-aggregate-compare-4 : tie.Need-slice-aggregate-compare-4
 slice-aggregate-compare-4 c = search needs
 
--- src/runs.rt:123:5
 compare-requires : tie.Need-compare-requires
 compare-requires c κs = let p = (c .before .before .before .before .before .before .before .before .before .before .before .before .before .before .before .before .before .before .before .before .before .before .before .before .before .before .before) .pre in let e = (c .before .before .before .before .before .before .before .before .before .before .before .before .before .before .before .before .before .before .before .before .before .before) .row-words .ensures in let f = (c .before .before .before .before .before .before .before .before .before .before .before .before .before .before .before) .draw-equations .ensures in (p .0, p .1, e .0, simp length-take (omega arith))
 
--- src/runs.rt:97:1
 returns : tie.Need-returns
 returns c = search needs
 

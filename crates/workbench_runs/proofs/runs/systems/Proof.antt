@@ -16,31 +16,24 @@ Inv-loop tally₀ seed₀ k₀ tally seed k = k ≤ 2096
 abbrev μ-loop : tie.MeasureT-loop
 μ-loop tally₀ seed₀ k₀ tally seed k = 2096 - k
 
--- src/runs.rt:137:5
 loop-holds : tie.Need-loop-holds Inv-loop μ-loop
 loop-holds c = search needs
 
--- src/runs.rt:138:13
 below-requires : tie.Need-below-requires Inv-loop μ-loop
 below-requires c κs = search needs
 
--- src/runs.rt:139:9
 system-requires : tie.Need-system-requires Inv-loop μ-loop
 system-requires c κs = search needs
 
--- src/runs.rt:140:9
 add-k : tie.Need-add-k Inv-loop μ-loop
 add-k c = search needs
 
--- src/runs.rt:137:5
 loop-less : tie.Need-loop-less Inv-loop μ-loop
 loop-less c = search needs
 
--- src/runs.rt:137:5
 loop-again : tie.Need-loop-again Inv-loop μ-loop
 loop-again c = search needs
 
--- src/runs.rt:135:1
 returns : tie.Need-returns Inv-loop μ-loop
 returns c = search needs
 

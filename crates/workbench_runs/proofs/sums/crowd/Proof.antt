@@ -12,71 +12,54 @@ use Rattle.workbench_runs.proofs.print.text.Reads as text-reads
 use Rattle.workbench_runs.proofs.sums.answer_line.Reads as answer-line-reads
 use Rattle.workbench_runs.proofs.sums.star.Reads as star-reads
 
--- src/sums.rt:86:13
 mul-n : tie.Need-mul-n
 mul-n c = search needs
 
--- src/sums.rt:86:13
 add-n : tie.Need-add-n
 add-n c = search needs
 
--- src/sums.rt:87:25
 star-requires : tie.Need-star-requires
 star-requires c κs = search needs
 
--- src/sums.rt:87:39
 array-borrow-prefix-solution : tie.Need-array-borrow-prefix-solution
 array-borrow-prefix-solution c = search needs
 
--- src/sums.rt:87:39
 slice-aggregate-peel-low-of : tie.Need-slice-aggregate-peel-low-of
 slice-aggregate-peel-low-of c = sym (length-take-le _ _ (omega arith))
 
--- src/sums.rt:87:59
 slice-aggregate-peel-low-of-2 : tie.Need-slice-aggregate-peel-low-of-2
 slice-aggregate-peel-low-of-2 c = search needs
 
--- src/sums.rt:87:73
 slice-aggregate-peel-low-of-3 : tie.Need-slice-aggregate-peel-low-of-3
 slice-aggregate-peel-low-of-3 c = search needs
 
--- src/sums.rt:87:9
 peel-low-of-requires : tie.Need-peel-low-of-requires
 peel-low-of-requires c κs = search needs
 
--- src/sums.rt:88:10
 slice-aggregate-text : tie.Need-slice-aggregate-text
 slice-aggregate-text c = search needs
 
--- src/sums.rt:88:5
 text-requires : tie.Need-text-requires
 text-requires c κs = search needs
 
--- src/sums.rt:89:5
 number-requires : tie.Need-number-requires
 number-requires c κs = search needs
 
--- src/sums.rt:90:10
 slice-aggregate-text-2 : tie.Need-slice-aggregate-text-2
 slice-aggregate-text-2 c = search needs
 
--- src/sums.rt:90:5
 text-requires-2 : tie.Need-text-requires-2
 text-requires-2 c κs = search needs
 
--- src/sums.rt:92:5
 answer-line-requires : tie.Need-answer-line-requires
 answer-line-requires c κs = search needs
 
--- src/sums.rt:93:10
 slice-aggregate-text-3 : tie.Need-slice-aggregate-text-3
 slice-aggregate-text-3 c = search needs
 
--- src/sums.rt:93:5
 text-requires-3 : tie.Need-text-requires-3
 text-requires-3 c κs = search needs
 
--- src/sums.rt:80:1
 returns : tie.Need-returns
 returns c = search needs
 

@@ -11,131 +11,100 @@ use Rattle.workbench_runs.proofs.print.number.Reads as number-reads
 use Rattle.workbench_runs.proofs.print.text.Reads as text-reads
 use Rattle.workbench_runs.proofs.sums.answer_line.Reads as answer-line-reads
 
--- src/sums.rt:27:22
 shl-rows : tie.Need-shl-rows
 shl-rows c = search needs
 
--- src/sums.rt:27:5
 mul-rows : tie.Need-mul-rows
 mul-rows c = search needs
 
--- src/sums.rt:27:5
 array-write-rows : tie.Need-array-write-rows
 array-write-rows c = search needs
 
--- src/sums.rt:32:9
 slice-aggregate-dense-gaussian-elimination : tie.Need-slice-aggregate-dense-gaussian-elimination
 slice-aggregate-dense-gaussian-elimination c = search needs
 
--- src/sums.rt:33:9
 slice-aggregate-dense-gaussian-elimination-2 :
     tie.Need-slice-aggregate-dense-gaussian-elimination-2
 slice-aggregate-dense-gaussian-elimination-2 c = search needs
 
--- src/sums.rt:34:9
 array-borrow-prefix-solution : tie.Need-array-borrow-prefix-solution
 array-borrow-prefix-solution c = search needs
 
--- src/sums.rt:34:9
 slice-aggregate-dense-gaussian-elimination-3 :
     tie.Need-slice-aggregate-dense-gaussian-elimination-3
 slice-aggregate-dense-gaussian-elimination-3 c = sym (length-take-le _ _ (omega arith))
 
--- src/sums.rt:35:9
 slice-aggregate-dense-gaussian-elimination-4 :
     tie.Need-slice-aggregate-dense-gaussian-elimination-4
 slice-aggregate-dense-gaussian-elimination-4 c = search needs
 
--- src/sums.rt:36:9
 slice-aggregate-dense-gaussian-elimination-5 :
     tie.Need-slice-aggregate-dense-gaussian-elimination-5
 slice-aggregate-dense-gaussian-elimination-5 c = search needs
 
--- src/sums.rt:28:9
 dense-gaussian-elimination-requires : tie.Need-dense-gaussian-elimination-requires
 dense-gaussian-elimination-requires c κs = search needs
 
--- src/sums.rt:38:10
 slice-aggregate-text : tie.Need-slice-aggregate-text
 slice-aggregate-text c = search needs
 
--- src/sums.rt:38:5
 text-requires : tie.Need-text-requires
 text-requires c κs = search needs
 
--- src/sums.rt:39:5
 number-requires : tie.Need-number-requires
 number-requires c κs = search needs
 
--- src/sums.rt:40:10
 slice-aggregate-text-2 : tie.Need-slice-aggregate-text-2
 slice-aggregate-text-2 c = search needs
 
--- src/sums.rt:40:5
 text-requires-2 : tie.Need-text-requires-2
 text-requires-2 c κs = search needs
 
--- src/sums.rt:41:5
 number-requires-2 : tie.Need-number-requires-2
 number-requires-2 c κs = search needs
 
--- src/sums.rt:42:10
 slice-aggregate-text-3 : tie.Need-slice-aggregate-text-3
 slice-aggregate-text-3 c = search needs
 
--- src/sums.rt:42:5
 text-requires-3 : tie.Need-text-requires-3
 text-requires-3 c κs = search needs
 
--- src/sums.rt:43:5
 number-requires-3 : tie.Need-number-requires-3
 number-requires-3 c κs = search needs
 
--- src/sums.rt:44:10
 slice-aggregate-text-4 : tie.Need-slice-aggregate-text-4
 slice-aggregate-text-4 c = search needs
 
--- src/sums.rt:44:5
 text-requires-4 : tie.Need-text-requires-4
 text-requires-4 c κs = search needs
 
--- src/sums.rt:45:5
 answer-line-requires : tie.Need-answer-line-requires
 answer-line-requires c κs = search needs
 
--- src/sums.rt:46:10
 slice-aggregate-text-5 : tie.Need-slice-aggregate-text-5
 slice-aggregate-text-5 c = search needs
 
--- src/sums.rt:46:5
 text-requires-5 : tie.Need-text-requires-5
 text-requires-5 c κs = search needs
 
--- src/sums.rt:47:21
 sub-number : tie.Need-sub-number
 sub-number c = search needs
 
--- src/sums.rt:47:12
 mul-number : tie.Need-mul-number
 mul-number c = search needs
 
--- src/sums.rt:47:12
 array-read-number : tie.Need-array-read-number
 array-read-number c = search needs
 
--- src/sums.rt:47:5
 number-requires-4 : tie.Need-number-requires-4
 number-requires-4 c κs = search needs
 
--- src/sums.rt:48:10
 slice-aggregate-text-6 : tie.Need-slice-aggregate-text-6
 slice-aggregate-text-6 c = search needs
 
--- src/sums.rt:48:5
 text-requires-6 : tie.Need-text-requires-6
 text-requires-6 c κs = search needs
 
--- src/sums.rt:19:1
 returns : tie.Need-returns
 returns c = search needs
 

@@ -15,39 +15,30 @@ Inv-loop table₀ i₀ table i = (length table ≡ 256) × (i ≤ 256)
 abbrev μ-loop : tie.MeasureT-loop
 μ-loop table₀ i₀ table i = 256 - i
 
--- src/sums.rt:70:9
 ray-requires : tie.Need-ray-requires Inv-loop μ-loop
 ray-requires c κs = search needs
 
--- src/sums.rt:73:5
 loop-holds : tie.Need-loop-holds Inv-loop μ-loop
 loop-holds c = search needs
 
--- src/sums.rt:74:20
 ray-requires-2 : tie.Need-ray-requires-2 Inv-loop μ-loop
 ray-requires-2 c κs = search needs
 
--- src/sums.rt:74:9
 mul-table : tie.Need-mul-table Inv-loop μ-loop
 mul-table c = search needs
 
--- src/sums.rt:74:9
 array-set-from-table : tie.Need-array-set-from-table Inv-loop μ-loop
 array-set-from-table c = search needs
 
--- src/sums.rt:75:9
 add-i : tie.Need-add-i Inv-loop μ-loop
 add-i c = search needs
 
--- src/sums.rt:73:5
 loop-less : tie.Need-loop-less Inv-loop μ-loop
 loop-less c = search needs
 
--- src/sums.rt:73:5
 loop-again : tie.Need-loop-again Inv-loop μ-loop
 loop-again c = search needs
 
--- src/sums.rt:69:1
 returns : tie.Need-returns Inv-loop μ-loop
 returns c = search needs
 
