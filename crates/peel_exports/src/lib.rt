@@ -1,5 +1,5 @@
-// The peelers and lookup under plain names, for programs in C or Rust: a slice is a pointer and a length, a second result is written through.
-// A lent edge is a C struct of 24 bytes: three 32-bit vertices at 0, 4 and 8, a 64-bit value at 16. The language promises it of `#[repr(C)]`.
+// The peelers and lookup under plain names, for C or Rust: a slice is a pointer and a length, a second result is written through.
+// A lent edge is a C struct of 24 bytes: 32-bit vertices at 0, 4 and 8, a 64-bit value at 16. The language promises it of `#[repr(C)]`.
 use answers::Answer;
 use lookups::reading::lookup;
 use peel_gates::ends::Peeling;
