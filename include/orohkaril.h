@@ -59,7 +59,8 @@ static inline const char *orohkaril_answer_text(uint32_t number)
 /* ---- largest sizes */
 #define OROHKARIL_MAX_VARIABLES 16384u /* n: variables, vertices, cells; also of a table that is looked up */
 #define OROHKARIL_MAX_EQUATIONS 16384u /* m: equations, rows, edges */
-#define OROHKARIL_MAX_LISTED 65536u    /* t: listed variables; also of one list of the sum */
+#define OROHKARIL_MAX_LISTED 65536u    /* t: listed variables of a system */
+#define OROHKARIL_MAX_SUMMED 65536u    /* variables in one list of the sum */
 #define OROHKARIL_MAX_ROW_WORDS 256u   /* w: 64-bit words of a dense row */
 #define OROHKARIL_CROWD 64u            /* so many edges on one vertex are refused */
 
