@@ -27,15 +27,16 @@ W
     chmod +x "$out/tools/bin/clang"
 }
 
-# The module, without what it says of its x86-64 target, compiled for this machine.
-compile_module() { # MODULE OBJECT
-    target=$machine-unknown-linux-gnu
-    "$tools/bin/clang" --target=x86_64-unknown-linux-gnu -x ir "$1" -S -emit-llvm -O0 -Xclang -disable-llvm-passes -o "$out/module.ll"
+# The module, without what it says of its x86-64 target, compiled for another: TARGET by the compiler's name, and the compiler's words for it.
+compile_module() { # MODULE OBJECT TARGET WORDS..
+    module=$1 object=$2 target=$3
+    shift 3
+    "$tools/bin/clang" --target=x86_64-unknown-linux-gnu -x ir "$module" -S -emit-llvm -O0 -Xclang -disable-llvm-passes -o "$out/module.ll"
     {
-        echo 'int x;' | "$tools/bin/clang" --target="$target" -x c - -S -emit-llvm -o - | sed -n '/^target/p'
+        echo 'int x;' | "$tools/bin/clang" --target="$target" "$@" -x c - -S -emit-llvm -o - | sed -n '/^target/p'
         sed -e '/^target datalayout/d; /^target triple/d' -e 's/"target-cpu"="x86-64"//g; s/"target-features"="[^"]*"//g' "$out/module.ll"
     } >"$out/native.ll"
-    "$tools/bin/clang" --target="$target" -O3 -fPIC -c -x ir "$out/native.ll" -o "$2"
+    "$tools/bin/clang" --target="$target" "$@" -c -x ir "$out/native.ll" -o "$object"
 }
 
 # The proved calls of both crates: OUT/NAME.a for x86-64, as rt writes it, and OUT/NAME.o for another machine.
@@ -45,7 +46,7 @@ proved_calls() {
         if [ "$machine" = x86_64 ]; then home=$kit; else home=$out/kit; fi
         (cd "$tree" && RATTLE_HOME=$home rt staticlib $name) >"$out/rt.log" 2>&1 || { cat "$out/rt.log" >&2; exit 1; }
         cp "$tree/target/staticlib/lib$name.a" "$out/$name.a"
-        [ "$machine" = x86_64 ] || compile_module "$out/modules/module.bc" "$out/$name.o"
+        [ "$machine" = x86_64 ] || compile_module "$out/modules/module.bc" "$out/$name.o" "$machine-unknown-linux-gnu" -O3 -fPIC
     done
 }
 

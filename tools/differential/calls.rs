@@ -7,9 +7,8 @@ unsafe extern "C" {
     fn orohkaril_lazy(n: usize, m: usize, starts: *const u32, starts_len: usize, vars: *const u32, vars_len: usize, constants: *const u64, constants_len: usize, solution: *mut u64, solution_len: usize, numbers: *mut u32, numbers_len: usize, words: *mut u64, words_len: usize, cancelled: *mut u64, place: *mut usize) -> u32;
     fn orohkaril_dense(n: usize, m: usize, w: usize, rows: *const u64, rows_len: usize, constants: *const u64, constants_len: usize, solution: *mut u64, solution_len: usize, numbers: *mut u32, numbers_len: usize, words: *mut u64, words_len: usize, place: *mut usize) -> u32;
     fn orohkaril_slow(n: usize, m: usize, w: usize, rows: *const u64, rows_len: usize, constants: *const u64, constants_len: usize, solution: *mut u64, solution_len: usize, numbers: *mut u32, numbers_len: usize, words: *mut u64, words_len: usize, place: *mut usize) -> u32;
-    // a struct of 40 bytes is handed back through a pointer that is passed first: the convention of x86-64, which the module keeps on every machine
-    fn orohkaril_peel_high(told: *mut Told, n: usize, edges: *const Edge, edges_len: usize, solution: *mut u64, solution_len: usize, numbers: *mut u32, numbers_len: usize, bytes: *mut u8, bytes_len: usize) -> *mut Told;
-    fn orohkaril_peel_low(told: *mut Told, n: usize, edges: *const Edge, edges_len: usize, solution: *mut u64, solution_len: usize, numbers: *mut u32, numbers_len: usize, bytes: *mut u8, bytes_len: usize) -> *mut Told;
+    fn orohkaril_peel_high(n: usize, edges: *const Edge, edges_len: usize, solution: *mut u64, solution_len: usize, numbers: *mut u32, numbers_len: usize, bytes: *mut u8, bytes_len: usize, peeled: *mut usize, total: *mut usize, unpeeled: *mut f64, place: *mut usize) -> u32;
+    fn orohkaril_peel_low(n: usize, edges: *const Edge, edges_len: usize, solution: *mut u64, solution_len: usize, numbers: *mut u32, numbers_len: usize, bytes: *mut u8, bytes_len: usize, peeled: *mut usize, total: *mut usize, unpeeled: *mut f64, place: *mut usize) -> u32;
     fn orohkaril_lookup(table: *const u64, table_len: usize, a: u32, b: u32, c: u32, bib: *mut u64, place: *mut usize) -> u32;
 }
 
@@ -66,7 +65,6 @@ pub struct Edge {
 }
 
 /// What a peeler tells: number and place, then the report.
-#[repr(C)]
 #[derive(Clone, Copy, Debug)]
 pub struct Told {
     pub number: u32,
@@ -144,7 +142,9 @@ pub struct LentPeelAreas {
 pub fn peel(high: bool, n: usize, edges: &[Edge], a: &mut LentPeelAreas) -> Told {
     let call = if high { orohkaril_peel_high } else { orohkaril_peel_low };
     let mut told = Told { number: u32::MAX, place: usize::MAX, peeled: usize::MAX, edges: usize::MAX, unpeeled: f64::NAN };
-    unsafe { call(&mut told, n, edges.as_ptr(), edges.len(), a.solution.at(), a.solution.len(), a.numbers.at(), a.numbers.len(), a.bytes.at(), a.bytes.len()) };
+    told.number = unsafe {
+        call(n, edges.as_ptr(), edges.len(), a.solution.at(), a.solution.len(), a.numbers.at(), a.numbers.len(), a.bytes.at(), a.bytes.len(), &mut told.peeled, &mut told.edges, &mut told.unpeeled, &mut told.place)
+    };
     told
 }
 

@@ -8,6 +8,7 @@
 //!     driver graphs damaged SEED SECONDS   and with one to three things wrong
 //!     driver limits                    the largest sizes, and one above each
 //!     driver bench ENGINE N M SEED PHASE   one input on both sides, for counting instructions (tools/measure)
+//!     driver time ENGINE N M SEED RUNS     the same, CPU time of both sides in turn
 //!
 //! Prints how many calls were compared, by engine and by the number given, and each difference's smallest input; ends with 1 if there is one.
 #[path = "../measure/bench.rs"]
@@ -132,9 +133,10 @@ fn main() {
             limits::largest(&mut tally);
             graph_inputs::largest(&mut tally);
         }
+        ["time", engine, _, _, _, _] => return bench::time(engine, number(2) as usize, number(3) as usize, number(4), number(5) as usize),
         ["bench", engine, _, _, _, only] => return bench::run(engine, number(2) as usize, number(3) as usize, number(4), only),
         _ => {
-            eprintln!("usage: driver [graphs] exhaustive LEVEL | [graphs] random SEED SECONDS | [graphs] damaged SEED SECONDS | limits | bench ENGINE N M SEED PHASE");
+            eprintln!("usage: driver [graphs] exhaustive LEVEL | [graphs] random SEED SECONDS | [graphs] damaged SEED SECONDS | limits | bench ENGINE N M SEED PHASE | time ENGINE N M SEED RUNS");
             std::process::exit(2);
         }
     }

@@ -48,6 +48,22 @@ fn three(r: &mut Random, n: usize) -> [u32; 3] {
     }
 }
 
+/// Unusual systems, with the values of planted cells: `long` has rows of 9 variables or more, `falling` has rows of 9 of which each begins with a lower variable than the one before, `gaps` has every second row empty, `tail` has single
+/// variables and then as many empty rows, `far` has rows of two variables m apart.
+fn unusual(shape: &str, n: usize, m: usize, seed: u64) -> Vec<Eq> {
+    let mut r = Random(seed);
+    let planted = r.words(n);
+    let with_value = |v: Vec<u32>| { let c = v.iter().fold(0, |c, &u| c ^ planted[u as usize]); (v, c) };
+    (0..m).map(|i| with_value(match shape {
+        "long" => { let count = 9 + r.below(n - 9); rising(&mut r, n, count) }
+        "falling" => (0..9).map(|k| (m - 1 - i + k) as u32).collect(),
+        "gaps" => if i % 2 == 1 { vec![] } else { rising(&mut r, n, 3) },
+        "tail" => if 2 * i >= m { vec![] } else { vec![i as u32] },
+        "far" => vec![i as u32, (m + i) as u32],
+        _ => panic!("no such shape"),
+    })).collect()
+}
+
 fn lent(solution: usize, room: (usize, usize)) -> LentAreas {
     LentAreas { solution: Lent::new(&vec![7; solution]), numbers: Lent::new(&vec![7; room.0]), words: Lent::new(&vec![7; room.1]) }
 }
@@ -109,23 +125,81 @@ fn peeler(only: &str, high: bool, n: usize, edges: &[Edge]) {
     });
 }
 
-pub fn run(engine: &str, n: usize, m: usize, seed: u64, only: &str) {
-    if engine == "sum" {
-        return sum(only, n, m, seed);
+fn equations(edges: &[Edge]) -> Vec<Eq> {
+    edges.iter().map(|e| { let mut v = e.vertices.to_vec(); v.sort(); (v, e.value) }).collect()
+}
+
+/// The equations of an input: of random edges, or, behind the engine's name and a slash, of an unusual shape.
+fn input(name: &str, n: usize, m: usize, seed: u64) -> Vec<Eq> {
+    match name.split_once('/') {
+        Some((_, shape)) => unusual(shape, n, m, seed),
+        None => equations(&planted_edges(n, m, seed)),
     }
-    let edges = planted_edges(n, m, seed);
-    let eqs: Vec<Eq> = edges.iter().map(|e| { let mut v = e.vertices.to_vec(); v.sort(); (v, e.value) }).collect();
+}
+
+pub fn run(name: &str, n: usize, m: usize, seed: u64, only: &str) {
+    let engine = name.split('/').next().unwrap();
+    match engine {
+        "sum" => return sum(only, n, m, seed),
+        "high" | "low" => return peeler(only, engine == "high", n, &planted_edges(n, m, seed)),
+        _ => {}
+    }
+    let eqs = input(name, n, m, seed);
     let (s, w) = (system(n, &eqs), n.div_ceil(64));
     match engine {
         "sparse" => { let mut rust = original::make_system(n, &eqs); solver(only, n, rules::sparse_room(n, m), || original::solve(&mut rust), |a| calls::sparse(&s, a).0.0) }
-        "lazy" => { let mut rust = original::make_system(n, &eqs); solver(only, n, rules::lazy_room(n, m, 3 * m), || original::solve_lazily(&mut rust), |a| calls::lazy(&s, a).0.0) }
+        "lazy" => { let mut rust = original::make_system(n, &eqs); solver(only, n, rules::lazy_room(n, m, s.vars.len()), || original::solve_lazily(&mut rust), |a| calls::lazy(&s, a).0.0) }
         // the Rust has one dense engine, and both of ours stand beside it
-        "dense" | "slow" => {
+        _ => {
             let rows = rows_of(n, w, &eqs, |v| v as usize);
             let (mut rust, mut constants) = (rows.rows.clone(), rows.constants.clone());
             let call = if engine == "slow" { calls::slow } else { calls::dense };
             solver(only, n, rules::dense_room(m, w), || original::dense(&mut rust, &mut constants, m, w, n).is_some(), |a| call(&rows, a).0)
         }
-        _ => peeler(only, engine == "high", n, &edges),
+    }
+}
+
+/// This thread's CPU time in nanoseconds.
+fn cpu() -> u64 {
+    unsafe extern "C" {
+        fn clock_gettime(clock: i32, time: *mut [i64; 2]) -> i32;
+    }
+    let mut time = [0; 2];
+    assert!(unsafe { clock_gettime(3, &mut time) } == 0);
+    time[0] as u64 * 1_000_000_000 + time[1] as u64
+}
+
+/// CPU time of the Rust, the call, the refused call and the zeroing, in turn and so many times: a line each time.
+fn timed<R>(runs: usize, n: usize, room: (usize, usize), made: impl Fn() -> R, rust: impl Fn(&mut R) -> bool, call: impl Fn(&mut LentAreas) -> u32) {
+    let (mut areas, mut refused) = (lent(n, room), lent(n + 1, room));
+    for _ in 0..runs {
+        let mut system = made();
+        let start = cpu();
+        assert!(black_box(rust(&mut system)));
+        let rust_done = cpu();
+        drop(system);
+        let here = cpu();
+        assert!(black_box(call(&mut areas)) == 0);
+        let here_done = cpu();
+        assert!(black_box(call(&mut refused)) == 4);
+        let rules_done = cpu();
+        for (at, len) in [(refused.numbers.cells().as_ptr() as *mut u8, 4 * room.0), (refused.words.cells().as_ptr() as *mut u8, 8 * room.1)] {
+            unsafe { std::ptr::write_bytes(at, 0, black_box(len)) }
+        }
+        println!("{} {} {} {}", rust_done - start, here_done - here, rules_done - here_done, cpu() - rules_done);
+    }
+}
+
+pub fn time(name: &str, n: usize, m: usize, seed: u64, runs: usize) {
+    let eqs = input(name, n, m, seed);
+    let (s, w) = (system(n, &eqs), n.div_ceil(64));
+    match name.split('/').next().unwrap() {
+        "sparse" => timed(runs, n, rules::sparse_room(n, m), || original::make_system(n, &eqs), |r| original::solve(r), |a| calls::sparse(&s, a).0.0),
+        "lazy" => timed(runs, n, rules::lazy_room(n, m, s.vars.len()), || original::make_system(n, &eqs), |r| original::solve_lazily(r), |a| calls::lazy(&s, a).0.0),
+        "dense" => {
+            let rows = rows_of(n, w, &eqs, |v| v as usize);
+            timed(runs, n, rules::dense_room(m, w), || (rows.rows.clone(), rows.constants.clone()), |r| original::dense(&mut r.0, &mut r.1, m, w, n).is_some(), |a| calls::dense(&rows, a).0)
+        }
+        _ => panic!("time is taken of sparse, lazy and dense"),
     }
 }

@@ -1,5 +1,6 @@
-// The peelers and lookup under plain names, for programs in C or Rust: a slice is a pointer and a length.
-// A lent edge is a C struct of 24 bytes: three 32-bit vertices at 0, 4 and 8, a 64-bit value at 16. The language promises it of `#[repr(C)]`.
+// The peelers and lookup under plain names, for C or Rust: a slice is a pointer and a length, a second result is written through.
+// A lent edge is a C struct of 24 bytes: 32-bit vertices at 0, 4 and 8, a 64-bit value at 16. The language promises it of `#[repr(C)]`.
+use answers::Answer;
 use lookups::reading::lookup;
 use peel_gates::ends::Peeling;
 use peelers::calls::peel_by_sig_vals_high_mem;
@@ -9,33 +10,36 @@ use peeling::numbers::Vertex;
 ghost use mathlib.Core.Path.{_≡_};
 ghost use Rattle.answers.specs.Numbers.{numberOf, placeOf};
 ghost use Rattle.peel_rules.specs.Calls.{peelHighCall, peelLowCall, lookupCall};
-ghost use Rattle.peel_exports.specs.Told.{Tells, toldBy};
+ghost use Rattle.peel_exports.specs.Told.{Tells, TellsReport};
 
-// A peeler's answer as its number and place, and its report.
-#[repr(C)]
-pub struct PeelingTold {
-    pub number: u32,
-    pub place: usize,
-    pub peeled: usize,
-    pub edges: usize,
-    pub unpeeled: f64,
-}
-
-fn tell(p: Peeling) -> PeelingTold
-    ensures { λ r. ⌜ r ≡ toldBy (p .answer) (p .report) ⌝ }
+// The number of an answer; its place is written through `place`.
+fn tell(answer: Answer, place: &mut usize) -> u32
+    ensures { λ r. ⌜ r ≡ numberOf answer ⌝ }
+    ensures { λ _. ⌜ now (place .exit) ≡ placeOf answer ⌝ }
 {
-    let answer = p.answer;
-    let report = p.report;
-    PeelingTold {
-        number: answer.number(),
-        place: answer.place(),
-        peeled: report.peeled,
-        edges: report.edges,
-        unpeeled: report.unpeeled,
-    }
+    *place = answer.place();
+    answer.number()
 }
 
-// `peelers::calls::peel_by_sig_vals_high_mem`.
+// The same of a peeler; its report is written through too.
+fn tell_peeling(
+    p: Peeling,
+    peeled: &mut usize,
+    total: &mut usize,
+    unpeeled: &mut f64,
+    place: &mut usize,
+) -> u32
+    ensures { λ r. ⌜ TellsReport (p .answer) (p .report) r (now (place .exit)) (now (peeled .exit)) (now (total .exit)) (now (unpeeled .exit)) ⌝ }
+{
+    let report = p.report;
+    *peeled = report.peeled;
+    *total = report.edges;
+    *unpeeled = report.unpeeled;
+    let answer = p.answer;
+    tell(answer, place)
+}
+
+// `peelers::calls::peel_by_sig_vals_high_mem`; its report goes through `peeled`, `total` and `unpeeled`.
 #[no_mangle]
 pub extern "C" fn orohkaril_peel_high(
     n: usize,
@@ -43,13 +47,18 @@ pub extern "C" fn orohkaril_peel_high(
     solution: &mut [u64],
     numbers: &mut [u32],
     bytes: &mut [u8],
-) -> PeelingTold
-    ensures { λ r. ⌜ Tells (peelHighCall n (now (edges .entry)) (now (solution .entry)) (now (numbers .entry)) (now (bytes .entry))) r (now (solution .exit)) (now (numbers .exit)) (now (bytes .exit)) ⌝ }
+    peeled: &mut usize,
+    total: &mut usize,
+    unpeeled: &mut f64,
+    place: &mut usize,
+) -> u32
+    ensures { λ r. ⌜ Tells (peelHighCall n (now (edges .entry)) (now (solution .entry)) (now (numbers .entry)) (now (bytes .entry))) r (now (place .exit)) (now (peeled .exit)) (now (total .exit)) (now (unpeeled .exit)) (now (solution .exit)) (now (numbers .exit)) (now (bytes .exit)) ⌝ }
 {
-    tell(peel_by_sig_vals_high_mem(n, edges, solution, numbers, bytes))
+    let p = peel_by_sig_vals_high_mem(n, edges, solution, numbers, bytes);
+    tell_peeling(p, peeled, total, unpeeled, place)
 }
 
-// `peelers::calls::peel_by_sig_vals_low_mem`.
+// `peelers::calls::peel_by_sig_vals_low_mem`; its report goes through `peeled`, `total` and `unpeeled`.
 #[no_mangle]
 pub extern "C" fn orohkaril_peel_low(
     n: usize,
@@ -57,10 +66,15 @@ pub extern "C" fn orohkaril_peel_low(
     solution: &mut [u64],
     numbers: &mut [u32],
     bytes: &mut [u8],
-) -> PeelingTold
-    ensures { λ r. ⌜ Tells (peelLowCall n (now (edges .entry)) (now (solution .entry)) (now (numbers .entry)) (now (bytes .entry))) r (now (solution .exit)) (now (numbers .exit)) (now (bytes .exit)) ⌝ }
+    peeled: &mut usize,
+    total: &mut usize,
+    unpeeled: &mut f64,
+    place: &mut usize,
+) -> u32
+    ensures { λ r. ⌜ Tells (peelLowCall n (now (edges .entry)) (now (solution .entry)) (now (numbers .entry)) (now (bytes .entry))) r (now (place .exit)) (now (peeled .exit)) (now (total .exit)) (now (unpeeled .exit)) (now (solution .exit)) (now (numbers .exit)) (now (bytes .exit)) ⌝ }
 {
-    tell(peel_by_sig_vals_low_mem(n, edges, solution, numbers, bytes))
+    let p = peel_by_sig_vals_low_mem(n, edges, solution, numbers, bytes);
+    tell_peeling(p, peeled, total, unpeeled, place)
 }
 
 // `lookups::reading::lookup`; bib and place are written through.
@@ -80,6 +94,5 @@ pub extern "C" fn orohkaril_lookup(
     let found = lookup(table, Vertex(a), Vertex(b), Vertex(c));
     *bib = found.bib;
     let answer = found.answer;
-    *place = answer.place();
-    answer.number()
+    tell(answer, place)
 }

@@ -9,13 +9,12 @@ use Rattle.peel_exports.proofs.orohkaril_lookup.Tie as tie
 returns : tie.Need-returns
 returns c =
     let e = c .before .before .lookup .ensures in
-    (c .number .ensures ∙ ap (λ (f : Found). numberOf (f .answer)) e, (ap (λ (f : Found). f .bib) e, c .before .place .ensures ∙ ap (λ (f : Found). placeOf (f .answer)) e))
+    (c .tell .ensures .0 ∙ ap (λ (f : Found). numberOf (f .answer)) e, (ap (λ (f : Found). f .bib) e, c .tell .ensures .1 ∙ ap (λ (f : Found). placeOf (f .answer)) e))
 
 pub orohkaril-lookup-spec : {M : Type 1} → statement M
 orohkaril-lookup-spec =
     tie.close
     (tie.spec
     (λ c κs. search needs)  -- lookup-requires
-    (λ c κs. search needs)  -- place-requires
-    (λ c κs. search needs)  -- number-requires
+    (λ c κs. search needs)  -- tell-requires
     returns)

@@ -8,4 +8,4 @@ use Rattle.peel_exports.proofs.orohkaril_peel_high.Code as code
 
 pub orohkaril-peel-high-spec : {M : Type 1} → stated.statement M
 unfolding code.routine
-orohkaril-peel-high-spec 𝓤 H 𝓜 𝓖 𝓡 = tells-peeling peelHighCall callee.name #self code.env callee.routine code.calls-peelers·calls·peel-by-sig-vals-high-mem code.calls-peel-exports·tell 𝓤 H 𝓜 𝓖 𝓡 (code.unfolded 𝓤 H 𝓜 𝓡) (callee-thm.met 𝓤 H 𝓜 𝓖 𝓡)
+orohkaril-peel-high-spec 𝓤 H 𝓜 𝓖 𝓡 = tells-peeling peelHighCall callee.name #self code.env callee.routine code.calls-peelers·calls·peel-by-sig-vals-high-mem code.calls-peel-exports·tell-peeling 𝓤 H 𝓜 𝓖 𝓡 (code.unfolded 𝓤 H 𝓜 𝓡) (callee-thm.met 𝓤 H 𝓜 𝓖 𝓡)
