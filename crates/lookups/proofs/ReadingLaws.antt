@@ -1,5 +1,5 @@
 -- What the rule of an edge says of a lookup's three cells, and the number of its answer.
-use mathlib.Core.Path.{_≡_, refl, ap}
+use mathlib.Core.Path.{_≡_, refl, sym, ap, subst}
 use mathlib.Core.List.{List, [], _∷_}
 use mathlib.Core.Bool.{Bool, true, false, cond}
 use Prim.Native.Nat.{ℕ}
@@ -15,6 +15,7 @@ use Rattle.peel_rules.specs.Peel.{edgeXor}
 use Rattle.peel_rules.specs.Calls.{LookupCall, lookupCall}
 use Rattle.peel_rules.specs.Edges.{edge, Valid, isValid, badEdge}
 use Rattle.peel_rules.proofs.PeelTheorems.{all-valid}
+use Rattle.lookups.specs.declared.reading.Found.{Found}
 use Rattle.lookups.specs.Lookups.{foundOf, FoundNumber}
 
 pub is-valid : (n : ℕ) (e : Edge) → isValid n e ≡ true → Valid n e
@@ -34,3 +35,7 @@ pub lookup-number : (table : List ℕ) (a b c : ℕ) → FoundNumber table a b c
 lookup-number table a b c =
     let k = by-cases (leb (length table) maxVariables) (isValid (length table) (edge a b c 0)) (edgeXor table (edge a b c 0)) in
     record { number = k .0; place = k .1 }
+
+-- .. and so has whatever is equal to it
+pub numbered : (table : List ℕ) (a b c : ℕ) (r : Found) → r ≡ foundOf (lookupCall table a b c) → (r ≡ foundOf (lookupCall table a b c)) × FoundNumber table a b c r
+numbered table a b c r e = (e, subst (λ (f : Found). FoundNumber table a b c f) (sym e) (lookup-number table a b c))

@@ -1,7 +1,7 @@
 // The bib of a transponder.
 ghost use mathlib.Core.Path.{_≡_};
 ghost use Rattle.peel_rules.specs.Calls.{lookupCall};
-ghost use Rattle.lookups.specs.Lookups.{foundOf};
+ghost use Rattle.lookups.specs.Lookups.{foundOf, FoundNumber};
 use answers::Answer;
 use answers::MAX_VARIABLES;
 use peel_gates::rules::keeps_rule;
@@ -17,6 +17,7 @@ pub struct Found {
 // The bib that three cells of the table hold; refused by 1 and 3.
 pub fn lookup(table: &[u64], a: Vertex, b: Vertex, c: Vertex) -> Found
     ensures { λ r. ⌜ r ≡ foundOf (lookupCall (now (table .entry)) (a .0) (b .0) (c .0)) ⌝ }
+    ensures { λ r. ⌜ FoundNumber (now (table .entry)) (a .0) (b .0) (c .0) r ⌝ }
 {
     if MAX_VARIABLES < table.len() {
         return Found {

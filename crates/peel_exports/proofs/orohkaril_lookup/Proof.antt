@@ -8,7 +8,7 @@ use Rattle.peel_exports.proofs.orohkaril_lookup.Tie as tie
 
 returns : tie.Need-returns
 returns c =
-    let e = c .before .before .lookup .ensures in
+    let e = c .before .before .lookup .ensures .0 in
     (c .tell .ensures .0 ∙ ap (λ (f : Found). numberOf (f .answer)) e, (ap (λ (f : Found). f .bib) e, c .tell .ensures .1 ∙ ap (λ (f : Found). placeOf (f .answer)) e))
 
 pub orohkaril-lookup-spec : {M : Type 1} → statement M

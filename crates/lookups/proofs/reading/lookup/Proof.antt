@@ -1,5 +1,5 @@
 use Rattle.peel_rules.specs.Edges.{edge}
-use Rattle.lookups.proofs.ReadingLaws.{is-valid}
+use Rattle.lookups.proofs.ReadingLaws.{is-valid, numbered}
 use Rattle.peel_rules.specs.Peel.{edgeXor}
 use borrow.Author.Tests.{le-leb, lt-leb}
 use mathlib.Core.Path.{refl, sym, _∙_}
@@ -8,7 +8,7 @@ use Rattle.lookups.proofs.reading.lookup.Statement.{statement}
 use Rattle.lookups.proofs.reading.lookup.Tie as tie
 
 returns : tie.Need-returns
-returns c = simp (lt-leb _ _ (c .if1 .taken)) refl
+returns c = numbered _ _ _ _ _ (simp (lt-leb _ _ (c .if1 .taken)) refl)
 
 keeps-rule-requires : tie.Need-keeps-rule-requires
 keeps-rule-requires c κs = search needs
@@ -42,10 +42,10 @@ shared-slice-read-z c = let v = is-valid _ (edge (c .before .before .before .bef
 
 returns-2 : tie.Need-returns-2
 unfolding edgeXor
-returns-2 c = simp (le-leb _ _ (c .before .before .before .before .before .before .before .before .if1 .left), sym (c .before .before .before .before .before .before .before .keeps-rule .ensures) ∙ c .before .before .before .before .before .before .if2 .taken) refl
+returns-2 c = numbered _ _ _ _ _ (simp (le-leb _ _ (c .before .before .before .before .before .before .before .before .if1 .left), sym (c .before .before .before .before .before .before .before .keeps-rule .ensures) ∙ c .before .before .before .before .before .before .if2 .taken) refl)
 
 returns-3 : tie.Need-returns-3
-returns-3 c = simp (le-leb _ _ (c .before .before .if1 .left), sym (c .before .keeps-rule .ensures) ∙ c .if2 .left) refl
+returns-3 c = numbered _ _ _ _ _ (simp (le-leb _ _ (c .before .before .if1 .left), sym (c .before .keeps-rule .ensures) ∙ c .if2 .left) refl)
 
 pub lookup-spec : {M : Type 1} → statement M
 lookup-spec =
