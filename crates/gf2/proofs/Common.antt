@@ -1,5 +1,5 @@
 -- How many variables two lists share: the sum tells it by its length, since each of them is missing twice.
-use mathlib.Core.Path.{◌≡◌, refl, ap, ◌∙◌}
+use mathlib.Core.Path.{◌≡◌, refl, ap, ap₂, subst, ◌∙◌}
 use mathlib.Core.Bool.{Bool, true, false, cond}
 use mathlib.Core.List.{List, [], ◌∷◌}
 use Prim.Native.Nat.{ℕ, suc, ◌+◌, ◌-◌, ◌*◌, ◌/◌, ◌≤◌}
@@ -40,8 +40,9 @@ cancelled (left {x} {y} {xs} {ys} h m) i j =
     rw e (omega arith)
 cancelled (merging.same {x} {y} {xs} {ys} h m) i j =
     let k = cancelled m i.1 j.1 in
-    let e : common (x ∷ xs) (y ∷ ys) ≡ 1 + common xs ys =
-    rw (← h) (common_cons x xs (x ∷ ys) ∙ rw (lists_head x ys, common_below x xs ys i.0)) in
+    let at_x : common (x ∷ xs) (x ∷ ys) ≡ 1 + common xs ys =
+    common_cons x xs (x ∷ ys) ∙ ap₂ (λ b c. one b + c) (lists_head x ys) (common_below x xs ys i.0) in
+    let e : common (x ∷ xs) (y ∷ ys) ≡ 1 + common xs ys = subst (λ w. common (x ∷ xs) (w ∷ ys) ≡ 1 + common xs ys) h at_x in
     rw e (omega arith)
 cancelled (right {x} {y} {xs} {ys} h m) i j =
     let k = cancelled m i j.1 in

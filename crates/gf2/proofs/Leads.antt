@@ -1,5 +1,5 @@
 -- The lowest variable of a row from the higher ones, by induction from the highest number down; and the canonical solution from rows.
-use mathlib.Core.Path.{◌≡◌, refl, sym, ap, ap₂, ◌∙◌}
+use mathlib.Core.Path.{◌≡◌, refl, sym, ap, ap₂, subst, ◌∙◌}
 use mathlib.Core.Logic.{◌⊎◌, inl, inr}
 use mathlib.Core.List.{List, [], ◌∷◌}
 use Prim.Native.Nat.{ℕ, zero, suc, ◌+◌, ◌<◌, ◌≤◌}
@@ -46,7 +46,7 @@ lead_agree v (u ∷ us) x y l i p h =
     rw l (xor_cancel_right (eval_vars us x) (get_or x u 0) (get_or y u 0) (p ∙ ap (bit_xor (get_or y u 0)) (sym tails)))
   where
     tails : eval_vars us x ≡ eval_vars us y
-    tails = eval_vars_agree us x y (each_and_above u (λ w. get_or x w 0 ≡ get_or y w 0) us i.0 (rw l at h.1))
+    tails = eval_vars_agree us x y (each_and_above u (λ w. get_or x w 0 ≡ get_or y w 0) us i.0 (subst (λ w. Each (λ t. w < t → get_or x t 0 ≡ get_or y t 0) us) l h.1))
 
 -- two solutions of a system that agree at the higher variables of a row of its span agree at the lowest
 pub span_lead_agree : (es : List Equation) (r : Equation) (v : ℕ) (x y : List ℕ) → Sorted es → MeetsAll x es → MeetsAll y es → InSpan es r → Lead v r.vars
