@@ -1,4 +1,6 @@
 // The answers of every call, with the numbers and places of the rules, and the largest sizes and rooms.
+#![tactic(auto)]
+
 ghost use Rattle.std.specs.Prelude.{◌≡◌, ◌≤◌};
 ghost use Rattle.answers.specs.Numbers.{number_of, place_of};
 ghost use Rattle.answers.specs.Sizes.{max_variables, max_equations, max_listed, max_row_words};

@@ -1,4 +1,6 @@
 // Every change of a single byte, and every truncation, of two small link files: each is answered, and where the form alone decides, as the form says.
+#![tactic(auto)]
+
 mod asks;
 mod counts;
 mod files;

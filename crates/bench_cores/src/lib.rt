@@ -1,2 +1,4 @@
 // Crowds and cores of a table, by the rules alone.
+#![tactic(auto)]
+
 pub mod cores;

@@ -1,4 +1,6 @@
 // Dense Gaussian elimination over two elements.
+#![tactic(auto)]
+
 ghost use Rattle.answers.specs.Numbers.{number_of, place_of};
 ghost use Rattle.answers.specs.Told.{Tells};
 ghost use Rattle.dense.specs.Call.{dense_call};

@@ -1,4 +1,6 @@
 // Rows of bits in lent words: whether they fit, the pivot search, and their value.
+#![tactic(auto)]
+
 pub mod fits;
 pub mod search;
 pub mod values;

@@ -1,4 +1,6 @@
 // Rows of one area that change places or are XORed, each from a word on, that word included.
+#![tactic(auto)]
+
 ghost use Rattle.std.specs.Prelude.{◌≡◌, ◌≢◌, ◌⊎◌, ◌+◌, ◌*◌, ◌/◌, ◌≤◌, ◌<◌, length, set, get_or};
 ghost use Rattle.areas.specs.Stretch.{stretch, put};
 ghost use Rattle.dense_rows.specs.Bits.{xor_words};

@@ -1,4 +1,6 @@
 // Equations over the field of two elements: a strictly increasing list of variables and a constant.
+#![tactic(auto)]
+
 ghost use Rattle.std.specs.Prelude.{◌≡◌};
 ghost use Rattle.answers.specs.Numbers.{number_of, place_of};
 ghost use Rattle.equation.specs.Sums.{sum_call, failed, TellsSum};

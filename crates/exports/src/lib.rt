@@ -1,4 +1,6 @@
 // The public calls under plain names, for programs in C or Rust: a slice is a pointer and a length, a second result is written through.
+#![tactic(auto)]
+
 pub mod lazy_elimination;
 pub mod slow_elimination;
 

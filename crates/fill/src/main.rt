@@ -1,4 +1,6 @@
 // Reads a link file from standard input and writes the text of its answer.
+#![tactic(auto)]
+
 use link_file::MOST_TEXT;
 use link_form::MAX_BYTES;
 

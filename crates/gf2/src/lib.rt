@@ -1,1 +1,2 @@
 // Linear algebra over two elements: definitions in specs/, laws in proofs/, no code.
+#![tactic(auto)]

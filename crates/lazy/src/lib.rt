@@ -1,1 +1,2 @@
 // Lazy Gaussian elimination over two elements.
+#![tactic(auto)]

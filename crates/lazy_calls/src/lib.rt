@@ -1,4 +1,6 @@
 // The call of lazy elimination: its set-up, its units, and zeros at the end.
+#![tactic(auto)]
+
 use answers::{Answer, Built, Rules};
 
 mod sweeping;

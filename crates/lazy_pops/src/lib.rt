@@ -1,4 +1,6 @@
 // The pops of lazy elimination, on its work areas.
+#![tactic(auto)]
+
 use lazy_setup::Stand;
 
 pub mod copying;

@@ -1,4 +1,6 @@
 // The work areas of lazy elimination, and how they are set up.
+#![tactic(auto)]
+
 use areas::{copy, zero};
 
 mod lists;

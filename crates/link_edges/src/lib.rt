@@ -1,4 +1,6 @@
 // The edges of a link file, solved by the low-memory peeler.
+#![tactic(auto)]
+
 mod load;
 mod solve;
 

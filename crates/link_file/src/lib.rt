@@ -1,4 +1,6 @@
 // The file program on slices: the bytes of a link file in, the text of its answer out.
+#![tactic(auto)]
+
 ghost use Rattle.std.specs.Prelude.{◌≡◌, ◌≤◌, length};
 ghost use Rattle.areas.specs.Stretch.{put};
 ghost use Rattle.link_file.specs.Text.{link_text, mostText, link_call};

@@ -1,4 +1,6 @@
 // The form of a link file: its numbers, and whether its bytes are all there.
+#![tactic(auto)]
+
 mod bytes;
 mod lent;
 mod scan;

@@ -1,4 +1,6 @@
 // The lines of an answer to a link file, in decimal digits.
+#![tactic(auto)]
+
 mod decimal;
 mod lines;
 mod outcomes;

@@ -1,4 +1,6 @@
 // The rows of a file, laid out as a lent sparse system.
+#![tactic(auto)]
+
 ghost use Rattle.std.specs.Prelude.{◌≡◌, [], ◌∷◌, ◌+◌, ◌*◌, ◌≤◌, length, drop};
 ghost use Rattle.std.proofs.Math.Option.{some};
 ghost use Rattle.areas.specs.Stretch.{put};

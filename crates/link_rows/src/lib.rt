@@ -1,4 +1,6 @@
 // The rows of a link file, solved by sparse or lazy elimination.
+#![tactic(auto)]
+
 ghost use Rattle.std.specs.Prelude.{◌≡◌, ◌+◌, ◌≤◌, length};
 ghost use Rattle.system.specs.Fits.{listed_in};
 ghost use Rattle.link_form.specs.Lent.{Served, file_rows};

@@ -1,4 +1,6 @@
 // Seeded systems, each in several orders and with an equation listed twice: sparse and dense must come to one answer and one table.
+#![tactic(auto)]
+
 mod counts;
 mod listing;
 mod orders;

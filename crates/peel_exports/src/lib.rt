@@ -1,5 +1,7 @@
 // The peelers and lookup under plain names, for C or Rust: a slice is a pointer and a length, a second result is written through.
 // A lent edge is a C struct of 24 bytes: 32-bit vertices at 0, 4 and 8, a 64-bit value at 16. The language promises it of `#[repr(C)]`.
+#![tactic(auto)]
+
 ghost use Rattle.std.specs.Prelude.{◌≡◌};
 ghost use Rattle.answers.specs.Numbers.{number_of, place_of};
 ghost use Rattle.peel_rules.specs.Calls.{peel_high_call, peel_low_call, lookup_call};

@@ -1,4 +1,6 @@
 // The numbers and the graph that both peelers use.
+#![tactic(auto)]
+
 pub mod graph;
 pub mod incidence;
 pub mod numbers;

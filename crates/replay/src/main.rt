@@ -1,4 +1,6 @@
 // Replays the cases on standard input, and says how many were answered as the Rust answered them.
+#![tactic(auto)]
+
 use libc::STDIN_FILENO;
 
 mod cases;

@@ -1,2 +1,4 @@
 // The peelers, replayed.
+#![tactic(auto)]
+
 pub mod peels;

@@ -1,4 +1,6 @@
 // The sum of two rows of one area.
+#![tactic(auto)]
+
 ghost use Rattle.std.specs.Prelude.{◌≡◌, ◌≤◌, max, length, take};
 ghost use Rattle.areas.specs.Stretch.{stretch, put};
 ghost use Rattle.areas.specs.Rows.{padded};

@@ -1,4 +1,6 @@
 // A system's rows in lent memory: m rows of n numbers, a scratch row, m lengths; the constants in the words.
+#![tactic(auto)]
+
 ghost use Rattle.std.specs.Prelude.{◌≡◌, ◌+◌, ◌*◌, ◌^◌, ◌≤◌, ◌<◌, length, set};
 ghost use Rattle.areas.specs.Stretch.{cleared, zeroed};
 ghost use Rattle.answers.specs.Sizes.{max_variables, row_numbers, row_words};

@@ -1,4 +1,6 @@
 // A slow dense engine to trust: dense elimination without back substitution.
+#![tactic(auto)]
+
 ghost use Rattle.answers.specs.Numbers.{number_of, place_of};
 ghost use Rattle.answers.specs.Told.{Tells};
 ghost use Rattle.slow_rules.specs.SlowCall.{slow_call};

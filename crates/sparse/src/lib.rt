@@ -1,4 +1,6 @@
 // Sparse Gaussian elimination over two elements, on lent memory.
+#![tactic(auto)]
+
 ghost use Rattle.std.specs.Prelude.{◌≡◌};
 ghost use Rattle.answers.specs.Numbers.{number_of, place_of};
 ghost use Rattle.answers.specs.Reported.{reported};

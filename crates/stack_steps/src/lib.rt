@@ -1,4 +1,6 @@
 // Stacks of vertex numbers in a lent slice, one step at a time: a head goes in and comes back by value. `stacks` lends it.
+#![tactic(auto)]
+
 ghost use Rattle.std.specs.Prelude.{◌≡◌};
 ghost use Rattle.stack_steps.specs.Stacks.{fast_push, fast_pop, push_lower, push_upper, pop_lower, pop_upper};
 

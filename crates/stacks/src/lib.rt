@@ -1,3 +1,5 @@
 // Stacks of vertex numbers in lent slices, whose heads are lent too.
+#![tactic(auto)]
+
 pub mod double;
 pub mod fast;

@@ -1,4 +1,6 @@
 // The lent sparse system: `rules` refuses with 1 to 3.
+#![tactic(auto)]
+
 mod order;
 mod shape;
 

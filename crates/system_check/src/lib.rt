@@ -1,4 +1,6 @@
 // The values of a lent system's solution: `check` says whether they meet every equation.
+#![tactic(auto)]
+
 mod evaluation;
 
 ghost use Rattle.std.specs.Prelude.{◌≡◌};

@@ -1,4 +1,6 @@
 // The sums that the table of the workbench leaves, and long seeded runs: each call held to the others, and what came of it counted.
+#![tactic(auto)]
+
 mod print;
 mod runs;
 mod sums;

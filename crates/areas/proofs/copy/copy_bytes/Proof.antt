@@ -6,10 +6,10 @@ use Rattle.areas.proofs.Copying.{Copying, copying_begin, copying_turn, copying_e
 use Rattle.areas.proofs.copy.copy_bytes.Statement.{statement}
 use Rattle.areas.proofs.copy.copy_bytes.Tie as tie
 
-abbrev invariant_loop : tie.invariant-loop
+abbrev invariant_loop : tie.invariant-loop-i
 invariant_loop src bytes₀ at i₀ bytes i = Copying src bytes₀ at i bytes
 
-abbrev decreases_loop : tie.decreases-loop
+abbrev decreases_loop : tie.decreases-loop-i
 decreases_loop src bytes₀ at i₀ bytes i = length src - i
 
 pub copy_bytes_spec : {M : Type 1} → statement M

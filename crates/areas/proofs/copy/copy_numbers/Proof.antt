@@ -6,10 +6,10 @@ use Rattle.areas.proofs.Copying.{Copying, copying_begin, copying_turn, copying_e
 use Rattle.areas.proofs.copy.copy_numbers.Statement.{statement}
 use Rattle.areas.proofs.copy.copy_numbers.Tie as tie
 
-abbrev invariant_loop : tie.invariant-loop
+abbrev invariant_loop : tie.invariant-loop-i
 invariant_loop src numbers₀ at i₀ numbers i = Copying src numbers₀ at i numbers
 
-abbrev decreases_loop : tie.decreases-loop
+abbrev decreases_loop : tie.decreases-loop-i
 decreases_loop src numbers₀ at i₀ numbers i = length src - i
 
 pub copy_numbers_spec : {M : Type 1} → statement M

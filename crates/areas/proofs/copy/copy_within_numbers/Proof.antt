@@ -5,10 +5,10 @@ use Rattle.areas.proofs.Copying.{Moving, moving_begin, moving_turn, moving_end}
 use Rattle.areas.proofs.copy.copy_within_numbers.Statement.{statement}
 use Rattle.areas.proofs.copy.copy_within_numbers.Tie as tie
 
-abbrev invariant_loop : tie.invariant-loop
+abbrev invariant_loop : tie.invariant-loop-i
 invariant_loop numbers₀ from n to i₀ numbers i = Moving numbers₀ from n to i numbers
 
-abbrev decreases_loop : tie.decreases-loop
+abbrev decreases_loop : tie.decreases-loop-i
 decreases_loop numbers₀ from n to i₀ numbers i = n - i
 
 pub copy_within_numbers_spec : {M : Type 1} → statement M

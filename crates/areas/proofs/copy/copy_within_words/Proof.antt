@@ -5,10 +5,10 @@ use Rattle.areas.proofs.Copying.{Moving, moving_begin, moving_turn, moving_end}
 use Rattle.areas.proofs.copy.copy_within_words.Statement.{statement}
 use Rattle.areas.proofs.copy.copy_within_words.Tie as tie
 
-abbrev invariant_loop : tie.invariant-loop
+abbrev invariant_loop : tie.invariant-loop-i
 invariant_loop words₀ from n to i₀ words i = Moving words₀ from n to i words
 
-abbrev decreases_loop : tie.decreases-loop
+abbrev decreases_loop : tie.decreases-loop-i
 decreases_loop words₀ from n to i₀ words i = n - i
 
 pub copy_within_words_spec : {M : Type 1} → statement M

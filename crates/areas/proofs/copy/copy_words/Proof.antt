@@ -6,10 +6,10 @@ use Rattle.areas.proofs.Copying.{Copying, copying_begin, copying_turn, copying_e
 use Rattle.areas.proofs.copy.copy_words.Statement.{statement}
 use Rattle.areas.proofs.copy.copy_words.Tie as tie
 
-abbrev invariant_loop : tie.invariant-loop
+abbrev invariant_loop : tie.invariant-loop-i
 invariant_loop src words₀ at i₀ words i = Copying src words₀ at i words
 
-abbrev decreases_loop : tie.decreases-loop
+abbrev decreases_loop : tie.decreases-loop-i
 decreases_loop src words₀ at i₀ words i = length src - i
 
 pub copy_words_spec : {M : Type 1} → statement M

@@ -7,10 +7,10 @@ use Rattle.areas.proofs.Exchanging.{Exchanging, exchanging_begin, exchanging_tur
 use Rattle.areas.proofs.exchange.exchange_bytes.Statement.{statement}
 use Rattle.areas.proofs.exchange.exchange_bytes.Tie as tie
 
-abbrev invariant_loop : tie.invariant-loop
+abbrev invariant_loop : tie.invariant-loop-i
 invariant_loop bytes₀ p q n i₀ bytes i = Exchanging bytes₀ p q n i bytes
 
-abbrev decreases_loop : tie.decreases-loop
+abbrev decreases_loop : tie.decreases-loop-i
 decreases_loop bytes₀ p q n i₀ bytes i = n - i
 
 pub exchange_bytes_spec : {M : Type 1} → statement M

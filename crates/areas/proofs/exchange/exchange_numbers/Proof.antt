@@ -7,10 +7,10 @@ use Rattle.areas.proofs.Exchanging.{Exchanging, exchanging_begin, exchanging_tur
 use Rattle.areas.proofs.exchange.exchange_numbers.Statement.{statement}
 use Rattle.areas.proofs.exchange.exchange_numbers.Tie as tie
 
-abbrev invariant_loop : tie.invariant-loop
+abbrev invariant_loop : tie.invariant-loop-i
 invariant_loop numbers₀ p q n i₀ numbers i = Exchanging numbers₀ p q n i numbers
 
-abbrev decreases_loop : tie.decreases-loop
+abbrev decreases_loop : tie.decreases-loop-i
 decreases_loop numbers₀ p q n i₀ numbers i = n - i
 
 pub exchange_numbers_spec : {M : Type 1} → statement M

@@ -7,10 +7,10 @@ use Rattle.areas.proofs.Exchanging.{Exchanging, exchanging_begin, exchanging_tur
 use Rattle.areas.proofs.exchange.exchange_words.Statement.{statement}
 use Rattle.areas.proofs.exchange.exchange_words.Tie as tie
 
-abbrev invariant_loop : tie.invariant-loop
+abbrev invariant_loop : tie.invariant-loop-i
 invariant_loop words₀ p q n i₀ words i = Exchanging words₀ p q n i words
 
-abbrev decreases_loop : tie.decreases-loop
+abbrev decreases_loop : tie.decreases-loop-i
 decreases_loop words₀ p q n i₀ words i = n - i
 
 pub exchange_words_spec : {M : Type 1} → statement M

@@ -5,10 +5,10 @@ use Rattle.areas.proofs.Zeroing.{Zeroing, zeroing_begin, zeroing_turn, zeroing_e
 use Rattle.areas.proofs.zero.zero_bytes.Statement.{statement}
 use Rattle.areas.proofs.zero.zero_bytes.Tie as tie
 
-abbrev invariant_loop : tie.invariant-loop
+abbrev invariant_loop : tie.invariant-loop-k
 invariant_loop bytes₀ from to k₀ bytes k = Zeroing bytes₀ from to k bytes
 
-abbrev decreases_loop : tie.decreases-loop
+abbrev decreases_loop : tie.decreases-loop-k
 decreases_loop bytes₀ from to k₀ bytes k = to - k
 
 pub zero_bytes_spec : {M : Type 1} → statement M

@@ -5,10 +5,10 @@ use Rattle.areas.proofs.Zeroing.{Zeroing, zeroing_begin, zeroing_turn, zeroing_e
 use Rattle.areas.proofs.zero.zero_numbers.Statement.{statement}
 use Rattle.areas.proofs.zero.zero_numbers.Tie as tie
 
-abbrev invariant_loop : tie.invariant-loop
+abbrev invariant_loop : tie.invariant-loop-k
 invariant_loop numbers₀ from to k₀ numbers k = Zeroing numbers₀ from to k numbers
 
-abbrev decreases_loop : tie.decreases-loop
+abbrev decreases_loop : tie.decreases-loop-k
 decreases_loop numbers₀ from to k₀ numbers k = to - k
 
 pub zero_numbers_spec : {M : Type 1} → statement M

@@ -5,10 +5,10 @@ use Rattle.areas.proofs.Zeroing.{Zeroing, zeroing_begin, zeroing_turn, zeroing_e
 use Rattle.areas.proofs.zero.zero_words.Statement.{statement}
 use Rattle.areas.proofs.zero.zero_words.Tie as tie
 
-abbrev invariant_loop : tie.invariant-loop
+abbrev invariant_loop : tie.invariant-loop-k
 invariant_loop words₀ from to k₀ words k = Zeroing words₀ from to k words
 
-abbrev decreases_loop : tie.decreases-loop
+abbrev decreases_loop : tie.decreases-loop-k
 decreases_loop words₀ from to k₀ words k = to - k
 
 pub zero_words_spec : {M : Type 1} → statement M
