@@ -98,7 +98,7 @@ def together(names):
 
 
 # names that a file takes from a library of the kit
-TAKEN = re.compile(r"^\s*(?:ghost |pub )*use (?!Rattle\.(?:%s)[.;])[^{]*\{([^}]*)\}" % "|".join(sorted(p.split("/")[1] for p in glob.glob("crates/*/"))), re.M)
+TAKEN = re.compile(r"^[ \t]*(?:ghost |pub )*use (?!Rattle\.(?:%s)[.;])[^{\n]*\{([^}\n]*)\}" % "|".join(sorted(p.split("/")[1] for p in glob.glob("crates/*/"))), re.M)
 
 
 def taken(text):

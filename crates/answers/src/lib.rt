@@ -7,7 +7,7 @@ ghost use Rattle.answers.specs.Sizes.{max_variables, max_equations, max_listed, 
 ghost use Rattle.answers.specs.Sizes.{sparse_numbers, lazy_numbers, lazy_words, dense_words, peel_high_numbers, peel_high_bytes, peel_low_numbers};
 
 // What a call answers; a number in brackets is the place.
-#[derive(Drop)]
+#[derive(Clone, Copy)]
 pub enum Answer {
     Solved,
     TooLarge,
@@ -61,7 +61,7 @@ impl Answer {
 }
 
 // What a solver's call answers, and how many variables cancelled in the sums that it made.
-#[derive(Drop)]
+#[derive(Clone, Copy)]
 pub struct Built {
     pub answer: Answer,
     pub cancelled: u64,
@@ -92,7 +92,7 @@ pub const MAX_SUMMED: usize = 65536;
 pub const MAX_ROW_WORDS: usize = 256;
 
 // Whether what was lent keeps the rules that come before the solution and the work areas.
-#[derive(Drop)]
+#[derive(Clone, Copy)]
 pub enum Rules {
     Kept,
     Broken(Answer),

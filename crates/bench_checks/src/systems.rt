@@ -225,7 +225,7 @@ fn by_dense(
 }
 
 // What a solver came to on memory of its own, which is longer than its room.
-#[derive(Drop)]
+#[derive(Clone, Copy)]
 pub struct Outcome {
     pub answer: Answer,
     pub x: [u64; 130],

@@ -192,7 +192,7 @@ fn as_counted(tally: &mut [u64; 90], table: [Edge; 256], m: usize, n: usize, ans
 }
 
 // What a peeler came to on memory of its own, which is longer than its room.
-#[derive(Drop)]
+#[derive(Clone, Copy)]
 pub struct Outcome {
     pub end: Peeling,
     pub x: [u64; 300],

@@ -6,7 +6,7 @@ pub mod search;
 pub mod values;
 
 // The row at which the pivot search ended, if one has the column.
-#[derive(Drop)]
+#[derive(Clone, Copy)]
 pub enum Pivot {
     At(usize),
     Nowhere,

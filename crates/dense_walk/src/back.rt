@@ -1,6 +1,6 @@
 // Back substitution.
 ghost use Rattle.std.specs.Prelude.{◌≡◌, ◌+◌, ◌*◌, ◌≤◌, length, take};
-ghost use Rattle.answers.specs.Sizes.{maxRowWords};
+ghost use Rattle.answers.specs.Sizes.{max_row_words};
 ghost use Rattle.dense_rows.specs.Rows.{held};
 ghost use Rattle.dense_walk.specs.Eliminate.{back_sub};
 ghost use Rattle.dense_walk.specs.Stairs.{Ready};
@@ -16,7 +16,7 @@ pub fn back_substitution(
     rank: usize,
     solution: &mut [u64],
 )
-    requires { (rank ≤ m) × (rank ≤ length numbers.now) × (w ≤ maxRowWords) × (m * w + m ≤ length words.now) × Ready (length solution.old) w (take rank numbers.now) (take rank (held m w words.now)) }
+    requires { (rank ≤ m) × (rank ≤ length numbers.now) × (w ≤ max_row_words) × (m * w + m ≤ length words.now) × Ready (length solution.old) w (take rank numbers.now) (take rank (held m w words.now)) }
     ensures { solution.new ≡ back_sub (length solution.old) (take rank numbers.now) (take rank (held m w words.now)) solution.old }
 {
     let mut i = rank;

@@ -1,6 +1,6 @@
 // The walk over the columns.
 ghost use Rattle.std.specs.Prelude.{◌≡◌, ◌+◌, ◌*◌, ◌≤◌, length, drop};
-ghost use Rattle.answers.specs.Sizes.{maxVariables};
+ghost use Rattle.answers.specs.Sizes.{max_variables};
 ghost use Rattle.dense_rows.specs.Rows.{held};
 ghost use Rattle.dense_walk.specs.Eliminate.{residue};
 ghost use Rattle.dense_walk.specs.Areas.{Eliminated};
@@ -11,7 +11,7 @@ use dense_steps::take_pivot;
 
 // Columns left to right, until every row has a pivot: the rank. A column that no row has is passed over.
 pub fn eliminate(n: usize, m: usize, w: usize, numbers: &mut [u32], words: &mut [u64]) -> usize
-    requires { (n ≤ maxVariables) × (n ≤ 64 * w) × (m ≤ length numbers.old) × (m * w + m ≤ length words.old) }
+    requires { (n ≤ max_variables) × (n ≤ 64 * w) × (m ≤ length numbers.old) × (m * w + m ≤ length words.old) }
     ensures { Eliminated n m w numbers.old words.old result numbers.new words.new }
 {
     let mut rank = 0;

@@ -10,7 +10,7 @@ use answers::Answer;
 mod increase;
 pub mod merge;
 
-#[derive(Drop)]
+#[derive(Clone, Copy)]
 pub struct Summed {
     pub answer: Answer,
     pub len: usize,

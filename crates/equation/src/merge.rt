@@ -5,7 +5,7 @@ ghost use Rattle.areas.specs.Stretch.{put};
 ghost use Rattle.equation.specs.Merging.{Ended};
 
 // How far a merge has come: in each list, and in the output.
-#[derive(Drop)]
+#[derive(Clone, Copy)]
 pub struct Place {
     pub left: usize,
     pub right: usize,

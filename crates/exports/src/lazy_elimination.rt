@@ -3,7 +3,7 @@ ghost use Rattle.std.specs.Prelude.{◌≡◌};
 ghost use Rattle.answers.specs.Reported.{reported};
 ghost use Rattle.system.specs.System.{equations};
 ghost use Rattle.lazy.specs.Cancelled.{lazy_cancels};
-ghost use Rattle.lazy_calls.specs.LazyCall.{lazyCall};
+ghost use Rattle.lazy_calls.specs.LazyCall.{lazy_call};
 ghost use Rattle.answers.specs.Told.{Tells};
 
 use crate::tell;
@@ -22,8 +22,8 @@ pub extern "C" fn orohkaril_lazy(
     cancelled: &mut u64,
     place: &mut usize,
 ) -> u32
-    ensures tells { Tells (lazyCall n m starts.now vars.now constants.now solution.old numbers.old words.old) result place.new solution.new numbers.new words.new }
-    ensures cancelled_after { cancelled.new ≡ reported (lazyCall n m starts.now vars.now constants.now solution.old numbers.old words.old).answer (lazy_cancels n (equations m starts.now vars.now constants.now)) }
+    ensures tells { Tells (lazy_call n m starts.now vars.now constants.now solution.old numbers.old words.old) result place.new solution.new numbers.new words.new }
+    ensures cancelled_after { cancelled.new ≡ reported (lazy_call n m starts.now vars.now constants.now solution.old numbers.old words.old).answer (lazy_cancels n (equations m starts.now vars.now constants.now)) }
 {
     let built = lazy_calls::lazy_gaussian_elimination(
         n, m, starts, vars, constants, solution, numbers, words,

@@ -1,5 +1,5 @@
 // The slow dense engine under a plain name.
-ghost use Rattle.slow_rules.specs.SlowCall.{slowCall};
+ghost use Rattle.slow_rules.specs.SlowCall.{slow_call};
 ghost use Rattle.answers.specs.Told.{Tells};
 
 use crate::tell;
@@ -17,7 +17,7 @@ pub extern "C" fn orohkaril_slow(
     words: &mut [u64],
     place: &mut usize,
 ) -> u32
-    ensures { Tells (slowCall n m w rows.now constants.now solution.old numbers.old words.old) result place.new solution.new numbers.new words.new }
+    ensures { Tells (slow_call n m w rows.now constants.now solution.old numbers.old words.old) result place.new solution.new numbers.new words.new }
 {
     let answer = slow_dense::slow_gaussian_elimination(
         n, m, w, rows, constants, solution, numbers, words,

@@ -1,6 +1,6 @@
 // The whole run on lent areas: set-up, units, zeros.
 ghost use Rattle.std.specs.Prelude.{◌≡◌, ◌≤◌, length, replicate};
-ghost use Rattle.answers.specs.Sizes.{lazyNumbers, lazyWords};
+ghost use Rattle.answers.specs.Sizes.{lazy_numbers, lazy_words};
 ghost use Rattle.system.specs.Fits.{Fits};
 ghost use Rattle.system.specs.System.{equations};
 ghost use Rattle.lazy.specs.Cancelled.{lazy_cancels};
@@ -23,7 +23,7 @@ fn build(
     numbers: &mut [u32],
     words: &mut [u64],
 ) -> Built
-    requires { Fits n m starts.now vars.now constants.now × (length solution.old ≡ n) × (length numbers.old ≡ lazyNumbers n m (length vars.now)) × (length words.old ≡ lazyWords m) }
+    requires { Fits n m starts.now vars.now constants.now × (length solution.old ≡ n) × (length numbers.old ≡ lazy_numbers n m (length vars.now)) × (length words.old ≡ lazy_words m) }
     ensures answers { Answers (lazy_answer n m starts.now vars.now constants.now) result.answer solution.old solution.new }
     ensures numbers_after { numbers.new ≡ replicate (length numbers.old) 0 }
     ensures words_after { words.new ≡ replicate (length words.old) 0 }
@@ -48,7 +48,7 @@ pub fn run(
     numbers: &mut [u32],
     words: &mut [u64],
 ) -> Built
-    requires { Fits n m starts.now vars.now constants.now × (length solution.old ≡ n) × (lazyNumbers n m (length vars.now) ≤ length numbers.old) × (lazyWords m ≤ length words.old) }
+    requires { Fits n m starts.now vars.now constants.now × (length solution.old ≡ n) × (lazy_numbers n m (length vars.now) ≤ length numbers.old) × (lazy_words m ≤ length words.old) }
     ensures answer_value { result.answer ≡ (lazy_ran n m starts.now vars.now constants.now solution.old numbers.old words.old).answer }
     ensures solution_after { solution.new ≡ (lazy_ran n m starts.now vars.now constants.now solution.old numbers.old words.old).solution }
     ensures numbers_after { numbers.new ≡ (lazy_ran n m starts.now vars.now constants.now solution.old numbers.old words.old).numbers }

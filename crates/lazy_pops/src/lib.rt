@@ -10,7 +10,7 @@ pub mod solving;
 pub mod variables;
 
 // How a unit ends: there is more to do, or the build is solved or refused.
-#[derive(Drop)]
+#[derive(Clone, Copy)]
 pub enum Step {
     More(Stand),
     Solved,
@@ -18,7 +18,7 @@ pub enum Step {
 }
 
 // .. and how many variables cancelled in the sums of the unit.
-#[derive(Drop)]
+#[derive(Clone, Copy)]
 pub struct CountedStep {
     pub step: Step,
     pub cancelled: u64,

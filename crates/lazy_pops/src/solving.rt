@@ -123,7 +123,7 @@ fn record_solved(numbers: &mut [u32], layout: Layout, k: usize, e: u32, v: u32)
 }
 
 // The stand after an equation has solved its variable, and how many variables cancelled in the sums.
-#[derive(Drop)]
+#[derive(Clone, Copy)]
 pub struct Solving {
     pub stand: Stand,
     pub cancelled: u64,

@@ -17,7 +17,7 @@ ghost use Rattle.lazy_setup.specs.Area.{numbers_of, words_of};
 ghost use Rattle.lazy_setup.specs.Layout.{layout_of, stand_of};
 
 // Where each segment of the numbers begins; the rows begin at 0.
-#[derive(Drop)]
+#[derive(Clone, Copy)]
 pub struct Layout {
     pub lengths: usize,
     pub lists: usize,
@@ -35,7 +35,7 @@ pub struct Layout {
 }
 
 // How far the lists of a state reach: the cells past these are zero.
-#[derive(Drop)]
+#[derive(Clone, Copy)]
 pub struct Stand {
     pub variables: usize,
     pub equations: usize,

@@ -2,7 +2,7 @@
 ghost use Rattle.std.specs.Prelude.{◌≡◌, take};
 ghost use Rattle.link_form.specs.File.{peel_kind};
 ghost use Rattle.link_form.specs.Lent.{Served, file_rows};
-ghost use Rattle.link_edges.specs.Edges.{lentCall, edges_call};
+ghost use Rattle.link_edges.specs.Edges.{lent_call, edges_call};
 
 use crate::load::load_edges;
 use answers::Answer;
@@ -12,8 +12,8 @@ use peeling::numbers::Edge;
 
 // Lends the work areas, all zero.
 fn peel_lent(table: [Edge; MOST_ROWS], n: usize, m: usize, solution: &mut [u64]) -> Answer
-    ensures value { result ≡ (lentCall n (take m table) solution.old).answer }
-    ensures solution_after { solution.new ≡ (lentCall n (take m table) solution.old).solution }
+    ensures value { result ≡ (lent_call n (take m table) solution.old).answer }
+    ensures solution_after { solution.new ≡ (lent_call n (take m table) solution.old).solution }
 {
     let mut numbers = [0u32; LENT_NUMBERS];
     let mut bytes = [0u8; LENT_BYTES];

@@ -3,7 +3,7 @@
 
 ghost use Rattle.std.specs.Prelude.{◌≡◌, ◌≤◌, length};
 ghost use Rattle.areas.specs.Stretch.{put};
-ghost use Rattle.link_file.specs.Text.{link_text, mostText, link_call};
+ghost use Rattle.link_file.specs.Text.{link_text, most_text, link_call};
 
 use answers::Answer;
 use link_form::Form;
@@ -17,7 +17,7 @@ const VERSION: u64 = 1;
 pub const MOST_TEXT: usize = 10882;
 
 fn write_text(bytes: &[u8], out: &mut [u8]) -> usize
-    requires { mostText ≤ length out.old }
+    requires { most_text ≤ length out.old }
     ensures value { result ≡ length (link_text bytes.now) }
     ensures out_after { out.new ≡ put 0 (link_text bytes.now) out.old }
 {

@@ -1,7 +1,7 @@
 // The call that a file asks for.
 ghost use Rattle.std.specs.Prelude.{◌≡◌};
-ghost use Rattle.system.specs.Fits.{listedIn};
-ghost use Rattle.link_form.specs.Lent.{Served, fileRows};
+ghost use Rattle.system.specs.Fits.{listed_in};
+ghost use Rattle.link_form.specs.Lent.{Served, file_rows};
 ghost use Rattle.link_file.specs.Text.{served};
 
 use answers::Answer;
@@ -9,9 +9,9 @@ use link_form::PEEL;
 
 // Solves by the call of the kind.
 pub fn solve(bytes: &[u8], kind: u64, n: usize, m: usize, t: usize, solution: &mut [u64]) -> Answer
-    requires { Served kind n m bytes.now × (t ≡ listedIn (fileRows kind m bytes.now)) }
-    ensures value { result ≡ (served kind n (fileRows kind m bytes.now) solution.old).answer }
-    ensures solution_after { solution.new ≡ (served kind n (fileRows kind m bytes.now) solution.old).values }
+    requires { Served kind n m bytes.now × (t ≡ listed_in (file_rows kind m bytes.now)) }
+    ensures value { result ≡ (served kind n (file_rows kind m bytes.now) solution.old).answer }
+    ensures solution_after { solution.new ≡ (served kind n (file_rows kind m bytes.now) solution.old).values }
 {
     if kind == PEEL {
         return link_edges::solve_edges(bytes, n, m, solution);

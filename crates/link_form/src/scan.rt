@@ -21,21 +21,21 @@ pub const HEADER_BYTES: usize = 10;
 const MARK: u64 = 76 + 78 * 256 + 75 * 65536;
 
 // A row that is all there: where it ends, and how many variables it lists.
-#[derive(Drop)]
+#[derive(Clone, Copy)]
 pub enum Row {
     Missing,
     Whole { next: usize, count: usize },
 }
 
 // How many variables the rows list, if all are there and nothing is left over.
-#[derive(Drop)]
+#[derive(Clone, Copy)]
 pub enum Scan {
     Broken,
     Listed(usize),
 }
 
 // What a file describes: its kind, n, m and t.
-#[derive(Drop)]
+#[derive(Clone, Copy)]
 pub enum Form {
     Malformed,
     Described {

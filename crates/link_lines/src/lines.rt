@@ -1,7 +1,7 @@
 // The lines that tell an answer.
 ghost use Rattle.std.specs.Prelude.{◌≡◌, ◌+◌, ◌*◌, ◌≤◌, length};
 ghost use Rattle.areas.specs.Stretch.{put};
-ghost use Rattle.link_lines.specs.Lines.{ended, mark_text, header_line, answer_line, value_lines, mostEnded, most_header, most_answer};
+ghost use Rattle.link_lines.specs.Lines.{ended, mark_text, header_line, answer_line, value_lines, most_ended, most_header, most_answer};
 
 use crate::decimal::write_decimal;
 
@@ -11,7 +11,7 @@ const NEWLINE: u8 = 10;
 
 // Writes a number and the byte that ends it, and says where they end.
 fn write_ended(out: &mut [u8], at: usize, x: u64, end: u8) -> usize
-    requires { at + mostEnded ≤ length out.old }
+    requires { at + most_ended ≤ length out.old }
     ensures value { result ≡ at + length (ended x end) }
     ensures out_after { out.new ≡ put at (ended x end) out.old }
 {
@@ -63,7 +63,7 @@ pub fn write_answer_line(out: &mut [u8], at: usize, number: u32, place: usize) -
 
 // Writes the values, one a line, and says where the last line ends.
 pub fn write_values(out: &mut [u8], at: usize, values: &[u64]) -> usize
-    requires { at + length values.now * mostEnded ≤ length out.old }
+    requires { at + length values.now * most_ended ≤ length out.old }
     ensures value { result ≡ at + length (value_lines values.now) }
     ensures out_after { out.new ≡ put at (value_lines values.now) out.old }
 {

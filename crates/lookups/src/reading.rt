@@ -7,7 +7,7 @@ use answers::{Answer, MAX_VARIABLES};
 use peel_gates::rules::keeps_rule;
 use peeling::numbers::{Edge, Vertex};
 
-#[derive(Drop)]
+#[derive(Clone, Copy)]
 pub struct Found {
     pub answer: Answer,
     // The XOR of the three cells, 0 with a refusal.

@@ -16,7 +16,7 @@ const SYSTEMS: usize = 320;
 const ORDERS: usize = 4;
 
 // Equations as rows of two words and their constants; one more may follow.
-#[derive(Drop)]
+#[derive(Clone, Copy)]
 struct DrawnRows {
     rows: [u64; 122],
     constants: [u64; 61],

@@ -9,19 +9,19 @@ use slow_dense::slow_gaussian_elimination;
 use sparse::gaussian_elimination;
 
 // What a solver came to; where it gave no table, x is as it was lent.
-#[derive(Drop)]
+#[derive(Clone, Copy)]
 pub struct Came {
     pub answer: Answer,
     pub x: [u64; 80],
 }
 
-#[derive(Drop)]
+#[derive(Clone, Copy)]
 pub struct ByRows {
     pub dense: Came,
     pub slow: Came,
 }
 
-#[derive(Drop)]
+#[derive(Clone, Copy)]
 pub struct ByEach {
     pub sparse: Came,
     pub dense: Came,

@@ -6,7 +6,7 @@ use types.Kit.{regoal}
 use mir.Syntax.{seq, call}
 use denote.Plain.{UInt}
 use denote.Struct.Laws as LL
-use Rattle.peel_rules.specs.Edges.{badEdge}
+use Rattle.peel_rules.specs.Edges.{bad_edge}
 use Rattle.peel_gates.specs.Gates.{gate_of}
 use Rattle.peel_parts.specs.Parts.{Admitted}
 use Rattle.peel_runs.specs.Runs.{Leaves, run_call}
@@ -85,13 +85,13 @@ module _ {M : Type 1} {𝓤 : Ura M} {𝓛 : Logic 𝓤} {K : Type 0} {Γ : List
   pub calls_bad_edge : K → FmC 𝓤 H 𝓛.laws C → (at_mem : Memory → SProp 𝓤) (run : Routine → Fun 𝓤) → Triple 𝓤 (C bad-edge-def.name) (BadEdgeᶜ 𝓛 at_mem run)
       → (κx : Lft) (qx : Share) (x : MutBor (List Edge)) → (n : ℕ) → n < 2 ^ 64
       → (Opds K 𝓛 (raw ((BadEdgeᶜ 𝓛 at_mem run).pre (to_bad_edge 𝓛 at_mem run κx qx x n)) ∷ ‵ (Shr Edgeᴿ.the_row κx x) ∷ Γ) E xs (val x ∷ vint w64 n ∷ []))
-      → ((res : ℕ) → (res ≡ badEdge n (now x)) → Is (UInt w64) res (vint w64 res ∷ []) → Seq K 𝓛 (‵ (Shr Edgeᴿ.the_row κx x) ∷ ‵ (flft κx qx) ∷ Γ) (lands C Λ E dst (vint w64 res) rest p))
+      → ((res : ℕ) → (res ≡ bad_edge n (now x)) → Is (UInt w64) res (vint w64 res ∷ []) → Seq K 𝓛 (‵ (Shr Edgeᴿ.the_row κx x) ∷ ‵ (flft κx qx) ∷ Γ) (lands C Λ E dst (vint w64 res) rest p))
       → Seq K 𝓛 (‵ (Shr Edgeᴿ.the_row κx x) ∷ ‵ (flft κx qx) ∷ Γ) (runs C Λ E (seq (call bad-edge-def.name xs dst) rest) p)
   calls_bad_edge t fm at_mem run known κx qx x n n_fits os k =
       use1 𝓛 (‵ (Shr Edgeᴿ.the_row κx x) ⊛ ‵ (Shr Edgeᴿ.the_row κx x)) ((shr_slice_copy 𝓛 (named 0) κx Edgeᴿ.the_row).twice x (val x ∷ [])) $ split t $ move t (1 ∷ 2 ∷ []) $ use2 𝓛 (raw ((BadEdgeᶜ 𝓛 at_mem run).pre (to_bad_edge 𝓛 at_mem run κx qx x n))) goes $
       calls_at t fm (BadEdgeᶜ 𝓛 at_mem run) known (to_bad_edge 𝓛 at_mem run κx qx x n) os (λ v.
       use1 𝓛 (later (some (λ (res : ℕ). ((‵ (flft κx qx) ⊛ ‵ ftrue) ⊛ ‵ ((UInt w64).own_val res (v ∷ []))) ⊛ raw (ensured 𝓛 bad-edge.ended (bad-edge.clauses 𝓛 at_mem run) (κx, tt) (x, (n, tt)) tt res)))) (id⊢ 𝓤 _) $ await t tt $ pick t (λ res. split t $ move t (1 ∷ []) $
-      use1 𝓛 (some (λ (zs : (Unit {0} × (Unit {0} × Unit {0}))). ‵ (lasts bad-edge.ended (κx, tt) (x, (n, tt)) zs) ⊛ raw (fact 𝓤 (res ≡ badEdge n (now x))))) (id⊢ 𝓤 _) $ pick t (λ zs. split t $ move t (1 ∷ []) $ heard t (res ≡ badEdge n (now x)) (λ said.
+      use1 𝓛 (some (λ (zs : (Unit {0} × (Unit {0} × Unit {0}))). ‵ (lasts bad-edge.ended (κx, tt) (x, (n, tt)) zs) ⊛ raw (fact 𝓤 (res ≡ bad_edge n (now x))))) (id⊢ 𝓤 _) $ pick t (λ zs. split t $ move t (1 ∷ []) $ heard t (res ≡ bad_edge n (now x)) (λ said.
       fsplit t $ let_go t $ fsplit t $ let_go t $ let_go t $ split t $ move t (1 ∷ []) $ facts t (UInt w64) (Is (UInt w64)) (shows 𝓛 (UInt w64)) res (v ∷ []) (λ is.
       split t $ move t (1 ∷ []) $ let_go t $ move t (1 ∷ 0 ∷ []) $
       regoal t (λ (u : Val). lands C Λ E dst u rest p) (ap only is.0) refl $ k res said (subst (Is (UInt w64) res) is.0 is))))))

@@ -8,7 +8,7 @@ ghost use Rattle.peel_gates.specs.Ends.{end_of};
 use answers::Answer;
 use peel_rules::report::StuckReport;
 
-#[derive(Drop)]
+#[derive(Clone, Copy)]
 pub struct Peeling {
     pub answer: Answer,
     // Told where a core is left.

@@ -10,7 +10,7 @@ use peel_rules::report::StuckReport;
 use peeling::numbers::Edge;
 
 // Whether the run may begin; if not, what is answered.
-#[derive(Drop)]
+#[derive(Clone, Copy)]
 pub struct Gate {
     pub opened: bool,
     pub refusal: Peeling,

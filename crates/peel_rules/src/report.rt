@@ -2,7 +2,7 @@
 ghost use Rattle.std.specs.Prelude.{◌≡◌};
 ghost use Rattle.peel_rules.specs.Report.{no_report};
 
-#[derive(Drop)]
+#[derive(Clone, Copy)]
 pub struct StuckReport {
     // Edges peeled: those outside the core.
     pub peeled: usize,

@@ -24,7 +24,7 @@ pub fn fill_one(solution: &mut [u64], e: Edge, side: u8)
 }
 
 // A peeled edge's place in the table, and the side from which it was peeled.
-#[derive(Drop)]
+#[derive(Clone, Copy)]
 pub struct PeeledAt {
     pub edge: usize,
     pub side: u8,

@@ -11,7 +11,7 @@ use peeling::numbers::{Edge, EdgeNo, Vertex};
 use stack_steps::{Head, fast_push, push_upper_at};
 
 // Where a peeler stands.
-#[derive(Drop)]
+#[derive(Clone, Copy)]
 pub struct Heads {
     // The head of the stack.
     pub stack: usize,

@@ -6,7 +6,7 @@ use types.Kit.{regoal}
 use mir.Syntax.{seq, call}
 use denote.Plain.{UInt}
 use denote.Struct.Laws as LL
-use Rattle.answers.specs.Sizes.{maxVariables, maxEquations}
+use Rattle.answers.specs.Sizes.{max_variables, max_equations}
 use Rattle.peeling.specs.Graph.{graph_of}
 use Rattle.peel_rules.specs.Edges.{Valid, is_valid}
 use Rattle.peel_rules.specs.Peel.{fill_one}
@@ -113,7 +113,7 @@ module _ {M : Type 1} {𝓤 : Ura M} {𝓛 : Logic 𝓤} {K : Type 0} {Γ : List
       goes = qed 𝓛 ([]) ∵ nothing ! $ nothing ! $ owned ! Edgeᴿ.the_row (Is Edgeᴿ.the_row) (LL.makes Edgeᴿ.the_type Edgeᴸ.the_plain 𝓛) r _ r-is $ fjoin ! $ owned ! (UInt w64) (Is (UInt w64)) (uint_Makes 𝓛 w64) n _ (refl, n_fits) $ fjoin ! $ move ! (1 ∷ 0 ∷ []) $ join ! $ frame ! $ done !
 
   pub calls_add_edge : K → FmC 𝓤 H 𝓛.laws C → (at_mem : Memory → SProp 𝓤) (run : Routine → Fun 𝓤) → Triple 𝓤 (C add-edge-def.name) (AddEdgeᶜ 𝓛 at_mem run)
-      → (κy : Lft) (qy : Share) (y : MutBor (List ℕ)) (d : List ℕ) → length d ≡ length (now y) → Room u32 (length (now y)) → (κz : Lft) (qz : Share) (z : MutBor (List ℕ)) (b : List ℕ) → length b ≡ length (now z) → Room u8 (length (now z)) → (i : ℕ) → i < 2 ^ 64 → (r : Edge) → Is Edgeᴿ.the_row r (Edgeᴸ.lowered r ∷ []) → (low : ℕ) → low < 2 ^ 64 → (Valid (length d) r) × (Valid (length b) r) × (i < maxEquations)
+      → (κy : Lft) (qy : Share) (y : MutBor (List ℕ)) (d : List ℕ) → length d ≡ length (now y) → Room u32 (length (now y)) → (κz : Lft) (qz : Share) (z : MutBor (List ℕ)) (b : List ℕ) → length b ≡ length (now z) → Room u8 (length (now z)) → (i : ℕ) → i < 2 ^ 64 → (r : Edge) → Is Edgeᴿ.the_row r (Edgeᴸ.lowered r ∷ []) → (low : ℕ) → low < 2 ^ 64 → (Valid (length d) r) × (Valid (length b) r) × (i < max_equations)
       → ((νy : ℕ) (δy : GName) (νz : ℕ) (δz : GName) → Opds K 𝓛 (raw ((AddEdgeᶜ 𝓛 at_mem run).pre (to_add_edge 𝓛 at_mem run νy δy y d νz δz z b i r low)) ∷ ‵ ftrue ∷ ‵ (Kept u8 κz qz νz δz z b) ∷ ‵ (Kept u32 κy qy νy δy y d) ∷ Γ) E xs (val y ∷ val z ∷ vint w64 i ∷ Edgeᴸ.lowered r ∷ vint w64 low ∷ []))
       → ((res : ℕ) → (zsy : List ℕ) → (zsz : List ℕ) → ((res ≡ noted_edge (graph_of d b) i r low) × (graph_of zsy zsz ≡ add_edge (graph_of d b) i r)) → length zsy ≡ length d → length zsz ≡ length b → Is (UInt w64) res (vint w64 res ∷ []) → Seq K 𝓛 (‵ (Mut u32 κy y zsy) ∷ ‵ (flft κy qy) ∷ ‵ (Mut u8 κz z zsz) ∷ ‵ (flft κz qz) ∷ Γ) (lands C Λ E dst (vint w64 res) rest p))
       → Seq K 𝓛 (‵ (Mut u32 κy y d) ∷ ‵ (flft κy qy) ∷ ‵ (Mut u8 κz z b) ∷ ‵ (flft κz qz) ∷ Γ) (runs C Λ E (seq (call add-edge-def.name xs dst) rest) p)
@@ -147,7 +147,7 @@ module _ {M : Type 1} {𝓤 : Ura M} {𝓛 : Logic 𝓤} {K : Type 0} {Γ : List
       goes νy δy νz δz = qed 𝓛 ((‵ (LentFor u32 νy δy y d) ⊛ ‵ (LentFor u8 νz δz z b)) ∷ (‵ (flft (νy ∷ []) full_share) ⊛ ‵ (flft (νz ∷ []) full_share)) ∷ []) ∵ says ! required $ split ! $ move ! (2 ∷ []) $ split ! $ nothing ! $ move ! (2 ∷ 0 ∷ []) $ join ! $ move ! (1 ∷ 0 ∷ []) $ join ! $ nothing ! $ move ! (3 ∷ 0 ∷ []) $ fjoin ! $ move ! (2 ∷ 0 ∷ []) $ fjoin ! $ owned ! Edgeᴿ.the_row (Is Edgeᴿ.the_row) (LL.makes Edgeᴿ.the_type Edgeᴸ.the_plain 𝓛) r _ r-is $ fjoin ! $ owned ! Headsᴿ.the_row (Is Headsᴿ.the_row) (LL.makes Headsᴿ.the_type Headsᴸ.the_plain 𝓛) h _ h_is $ fjoin ! $ owned ! (UInt w64) (Is (UInt w64)) (uint_Makes 𝓛 w64) n _ (refl, n_fits) $ fjoin ! $ owned ! bool (Is bool) (bool_Makes 𝓛) high _ refl $ fjoin ! $ move ! (1 ∷ 0 ∷ []) $ frame ! $ done !
 
   pub calls_peeled_at : K → FmC 𝓤 H 𝓛.laws C → (at_mem : Memory → SProp 𝓤) (run : Routine → Fun 𝓤) → Triple 𝓤 (C peeled-at-def.name) (PeeledAtᶜ 𝓛 at_mem run)
-      → (high : Bool) → (n : ℕ) → n < 2 ^ 64 → (j : ℕ) → j < 2 ^ 64 → (κy : Lft) (qy : Share) (y : MutBor (List ℕ)) → (κz : Lft) (qz : Share) (z : MutBor (List ℕ)) → (n ≤ maxVariables) × (j ≤ maxEquations) × Reads high n j (now y) (now z)
+      → (high : Bool) → (n : ℕ) → n < 2 ^ 64 → (j : ℕ) → j < 2 ^ 64 → (κy : Lft) (qy : Share) (y : MutBor (List ℕ)) → (κz : Lft) (qz : Share) (z : MutBor (List ℕ)) → (n ≤ max_variables) × (j ≤ max_equations) × Reads high n j (now y) (now z)
       → (Opds K 𝓛 (raw ((PeeledAtᶜ 𝓛 at_mem run).pre (to_peeled_at 𝓛 at_mem run high n j κy qy y κz qz z)) ∷ ‵ ftrue ∷ ‵ (Shr u8 κz z) ∷ ‵ (Shr u32 κy y) ∷ Γ) E xs (vbool high ∷ vint w64 n ∷ vint w64 j ∷ val y ∷ val z ∷ []))
       → ((res : PeeledAt) → ((res.edge ≡ number_at high n j (now y)) × (res.side ≡ side_no_at high n j (now y) (now z))) → Is PeeledAtᴿ.the_row res (PeeledAtᴸ.lowered res ∷ []) → Seq K 𝓛 (‵ (Shr u32 κy y) ∷ ‵ (flft κy qy) ∷ ‵ (Shr u8 κz z) ∷ ‵ (flft κz qz) ∷ Γ) (lands C Λ E dst (PeeledAtᴸ.lowered res) rest p))
       → Seq K 𝓛 (‵ (Shr u32 κy y) ∷ ‵ (flft κy qy) ∷ ‵ (Shr u8 κz z) ∷ ‵ (flft κz qz) ∷ Γ) (runs C Λ E (seq (call peeled-at-def.name xs dst) rest) p)

@@ -1,6 +1,6 @@
 // The peelers.
 ghost use Rattle.std.specs.Prelude.{true, false};
-ghost use Rattle.peel_rules.specs.Calls.{peel_low_call, peelHighCall};
+ghost use Rattle.peel_rules.specs.Calls.{peel_low_call, peel_high_call};
 ghost use Rattle.peel_runs.specs.Runs.{Leaves};
 
 use peel_calls::call::peel_by_sig_vals;
@@ -15,7 +15,7 @@ pub fn peel_by_sig_vals_high_mem(
     numbers: &mut [u32],
     bytes: &mut [u8],
 ) -> Peeling
-    ensures { Leaves (peelHighCall n edges.now solution.old numbers.old bytes.old) result solution.new numbers.new bytes.new }
+    ensures { Leaves (peel_high_call n edges.now solution.old numbers.old bytes.old) result solution.new numbers.new bytes.new }
 {
     peel_by_sig_vals(edges, true, n, solution, numbers, bytes)
 }

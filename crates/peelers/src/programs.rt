@@ -2,7 +2,7 @@
 ghost use Rattle.std.specs.Prelude.{◌≡◌, take};
 ghost use Rattle.peel_rules.specs.Calls.{peel_low_call, peel_high_call};
 ghost use Rattle.peel_runs.specs.Runs.{Leaves};
-ghost use Rattle.peelers.specs.Programs.{atMost256};
+ghost use Rattle.peelers.specs.Programs.{at_most256};
 
 use crate::calls::{peel_by_sig_vals_high_mem, peel_by_sig_vals_low_mem};
 use peel_gates::ends::Peeling;
@@ -10,7 +10,7 @@ use peeling::numbers::Edge;
 
 // No more than there are.
 pub fn at_most_256(m: usize) -> usize
-    ensures { result ≡ atMost256 m }
+    ensures { result ≡ at_most256 m }
 {
     if 256 < m {
         return 256;

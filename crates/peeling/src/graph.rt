@@ -9,34 +9,34 @@ use crate::numbers::{EdgeNo, Vertex};
 use answers::Answer;
 
 // What the graph holds beside its two lent slices: whether some vertex came to its 64th incidence.
-#[derive(Drop)]
+#[derive(Clone, Copy)]
 pub struct XorGraph {
     pub overflow: bool,
 }
 
 // What the two slices hold for one vertex.
-#[derive(Drop)]
+#[derive(Clone, Copy)]
 pub struct VertexRecord {
     pub edge: EdgeNo,
     pub byte: u8,
 }
 
 // An addition's answer, and the graph after it.
-#[derive(Drop)]
+#[derive(Clone, Copy)]
 pub struct Added {
     pub answer: Answer,
     pub graph: XorGraph,
 }
 
 // The edge and the side of a vertex that lies on one edge, or lay on one before its degree was zeroed.
-#[derive(Drop)]
+#[derive(Clone, Copy)]
 pub struct EdgeAndSide {
     pub answer: Answer,
     pub edge: EdgeNo,
     pub side: u8,
 }
 
-#[derive(Drop)]
+#[derive(Clone, Copy)]
 pub struct DegreeRead {
     pub answer: Answer,
     pub degree: u8,

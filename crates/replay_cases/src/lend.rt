@@ -7,7 +7,7 @@ use crate::said::{Said, refuses};
 use lent_cells::cells::{left_words, same_words};
 
 // Cells of the solution, of the numbers, and of the words or bytes.
-#[derive(Drop)]
+#[derive(Clone, Copy)]
 pub struct Room {
     pub solution: usize,
     pub numbers: usize,

@@ -5,13 +5,13 @@ ghost use Rattle.replay_cases.specs.Lists.{no_list, whole_list, head_at, missing
 use link_form::read_number;
 
 // How many numbers were read, and where the next list begins: past every end where the list was broken.
-#[derive(Drop)]
+#[derive(Clone, Copy)]
 pub struct Loaded {
     pub count: usize,
     pub next: usize,
 }
 
-#[derive(Drop)]
+#[derive(Clone, Copy)]
 pub struct ListHead {
     pub width: usize,
     pub count: usize,

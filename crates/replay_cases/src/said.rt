@@ -4,7 +4,7 @@ ghost use Rattle.replay_cases.specs.Judged.{is_refusal, said_by, agreement, verd
 
 use answers::Answer;
 
-#[derive(Drop)]
+#[derive(Clone, Copy)]
 pub struct Said {
     pub number: u64,
     pub place: u64,
@@ -13,7 +13,7 @@ pub struct Said {
 }
 
 // What came of a case.
-#[derive(Drop)]
+#[derive(Clone, Copy)]
 pub enum Verdict {
     // The Rust answered, and so was answered here.
     Same,

@@ -18,7 +18,7 @@ const DEGREE: u32 = 3;
 
 const EDGE: u32 = 4;
 
-#[derive(Drop)]
+#[derive(Clone, Copy)]
 pub struct GraphStep {
     pub reply: Reply,
     pub graph: XorGraph,

@@ -9,7 +9,7 @@ use stack_steps::{
     push_upper_at,
 };
 
-#[derive(Drop)]
+#[derive(Clone, Copy)]
 pub struct StackStep {
     pub reply: Reply,
     pub head: Head,

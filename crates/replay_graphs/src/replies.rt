@@ -6,7 +6,7 @@ use answers::Answer;
 use replay_cases::said::number_at;
 use stack_steps::Popped;
 
-#[derive(Drop)]
+#[derive(Clone, Copy)]
 pub struct Reply {
     pub number: u32,
     pub value: u32,

@@ -10,7 +10,7 @@ use replay_cases::lists::{load_numbers, load_words};
 use replay_cases::said::{Said, Verdict, agrees, came_of, number_at, said_of, word_at};
 
 // What the Rust logs when it is stuck: edges in all, and the percentage unpeeled in hundredths.
-#[derive(Drop)]
+#[derive(Clone, Copy)]
 pub struct Logged {
     pub edges: u64,
     pub hundredths: u64,

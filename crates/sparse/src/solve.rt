@@ -1,6 +1,6 @@
 // The lent system is loaded, its rows are solved, and the rooms are zeroed.
 ghost use Rattle.std.specs.Prelude.{◌≡◌, ◌≤◌, length};
-ghost use Rattle.answers.specs.Sizes.{sparseNumbers, sparseWords};
+ghost use Rattle.answers.specs.Sizes.{sparse_numbers, sparse_words};
 ghost use Rattle.answers.specs.Calls.{ran};
 ghost use Rattle.system.specs.System.{equations};
 ghost use Rattle.system.specs.Fits.{Fits};
@@ -21,11 +21,11 @@ pub fn run(
     numbers: &mut [u32],
     words: &mut [u64],
 ) -> Built
-    requires { Fits n m starts.now vars.now constants.now × (length solution.old ≡ n) × (sparseNumbers n m ≤ length numbers.old) × (sparseWords m ≤ length words.old) }
-    ensures answer_value { result.answer ≡ (ran (sparseNumbers n m) (sparseWords m) (gaussian_elimination n (equations m starts.now vars.now constants.now)) solution.old numbers.old words.old).answer }
-    ensures solution_after { solution.new ≡ (ran (sparseNumbers n m) (sparseWords m) (gaussian_elimination n (equations m starts.now vars.now constants.now)) solution.old numbers.old words.old).solution }
-    ensures numbers_after { numbers.new ≡ (ran (sparseNumbers n m) (sparseWords m) (gaussian_elimination n (equations m starts.now vars.now constants.now)) solution.old numbers.old words.old).numbers }
-    ensures words_after { words.new ≡ (ran (sparseNumbers n m) (sparseWords m) (gaussian_elimination n (equations m starts.now vars.now constants.now)) solution.old numbers.old words.old).words }
+    requires { Fits n m starts.now vars.now constants.now × (length solution.old ≡ n) × (sparse_numbers n m ≤ length numbers.old) × (sparse_words m ≤ length words.old) }
+    ensures answer_value { result.answer ≡ (ran (sparse_numbers n m) (sparse_words m) (gaussian_elimination n (equations m starts.now vars.now constants.now)) solution.old numbers.old words.old).answer }
+    ensures solution_after { solution.new ≡ (ran (sparse_numbers n m) (sparse_words m) (gaussian_elimination n (equations m starts.now vars.now constants.now)) solution.old numbers.old words.old).solution }
+    ensures numbers_after { numbers.new ≡ (ran (sparse_numbers n m) (sparse_words m) (gaussian_elimination n (equations m starts.now vars.now constants.now)) solution.old numbers.old words.old).numbers }
+    ensures words_after { words.new ≡ (ran (sparse_numbers n m) (sparse_words m) (gaussian_elimination n (equations m starts.now vars.now constants.now)) solution.old numbers.old words.old).words }
     ensures cancelled_value { result.cancelled ≡ sparse_cancels (equations m starts.now vars.now constants.now) }
 {
     crate::load::load(n, m, starts, vars, constants, numbers, words);

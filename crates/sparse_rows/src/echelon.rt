@@ -8,7 +8,7 @@ ghost use Rattle.sparse_rows.specs.Counts.{ahead};
 ghost use Rattle.sparse_rows.specs.Reduce.{Alike, MeetsRows, Passes, Reduces};
 
 // What came of a meeting of row i and a later row j.
-#[derive(Drop)]
+#[derive(Clone, Copy)]
 pub enum Met {
     // An equation without variables whose constant is not 0.
     Clash,
@@ -20,21 +20,21 @@ pub enum Met {
 }
 
 // .. and what fell away until then: two for each variable that cancelled.
-#[derive(Drop)]
+#[derive(Clone, Copy)]
 pub struct Encounter {
     pub met: Met,
     pub fallen: u64,
 }
 
 // What came of an elimination of rows.
-#[derive(Drop)]
+#[derive(Clone, Copy)]
 pub enum Reduction {
     Unsolvable,
     Reduced,
 }
 
 // .. and how many variables cancelled in its sums, one that was refused included.
-#[derive(Drop)]
+#[derive(Clone, Copy)]
 pub struct Counted {
     pub end: Reduction,
     pub cancelled: u64,

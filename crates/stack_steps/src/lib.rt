@@ -8,21 +8,21 @@ use answers::Answer;
 use peeling::numbers::Vertex;
 
 // Where a stack ends: the first free cell from below, and, of a double stack, the last pushed cell from above.
-#[derive(Drop)]
+#[derive(Clone, Copy)]
 pub struct Head {
     pub lower: usize,
     pub upper: usize,
 }
 
 // A push's answer, and the head after it.
-#[derive(Drop)]
+#[derive(Clone, Copy)]
 pub struct Pushed {
     pub head: Head,
     pub answer: Answer,
 }
 
 // What a pop finds.
-#[derive(Drop)]
+#[derive(Clone, Copy)]
 pub enum Popped {
     Got(Vertex),
     Empty,
@@ -30,7 +30,7 @@ pub enum Popped {
 }
 
 // A pop's result, and the head after it.
-#[derive(Drop)]
+#[derive(Clone, Copy)]
 pub struct PopStep {
     pub head: Head,
     pub got: Popped,

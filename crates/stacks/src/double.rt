@@ -8,7 +8,7 @@ use peeling::numbers::Vertex;
 use stack_steps::{Head, Popped, pop_lower_at, pop_upper_at, push_lower_at, push_upper_at};
 
 // The lower stack grows from the beginning of the slice, the upper stack from its end.
-#[derive(Drop)]
+#[derive(Clone, Copy)]
 pub struct DoubleStack {}
 
 impl DoubleStack {

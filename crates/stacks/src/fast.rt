@@ -8,7 +8,7 @@ use peeling::numbers::Vertex;
 use stack_steps::{Head, Popped, fast_pop, fast_push};
 
 // A stack that starts at the beginning of its slice; of its head only `lower` counts.
-#[derive(Drop)]
+#[derive(Clone, Copy)]
 pub struct FastStack {}
 
 impl FastStack {

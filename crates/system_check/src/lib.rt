@@ -10,7 +10,7 @@ use answers::{Answer, Rules};
 pub use evaluation::eval_vars;
 
 // What `check` answers.
-#[derive(Drop)]
+#[derive(Clone, Copy)]
 pub enum Checked {
     Refused(Answer),
     Yes,

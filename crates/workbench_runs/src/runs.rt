@@ -58,7 +58,7 @@ fn draw_bits(seed: &mut u64) -> u32
 }
 
 // The fewest and the most variables of an equation.
-#[derive(Drop)]
+#[derive(Clone, Copy)]
 struct Span {
     short: usize,
     long: usize,

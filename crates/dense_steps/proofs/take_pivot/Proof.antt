@@ -11,12 +11,12 @@ use Rattle.dense_steps.proofs.Clearing.{became_then, became_same}
 use Rattle.dense_steps.proofs.take_pivot.Statement.{statement}
 use Rattle.dense_steps.proofs.take_pivot.Tie as tie
 
-brought : (c : tie.Joined1) → let s = c.before.before in
-    Became s.args.m s.args.w s.args.words.now (swap_rows (s.args.col / 64) s.args.rank s.args.pivot (held s.args.m s.args.w s.args.words.now)) c.if1.words
+brought : (c : tie.Joined-pivot-rank) → let s = c in
+    Became s.args.m s.args.w s.args.words.now (swap_rows (s.args.col / 64) s.args.rank s.args.pivot (held s.args.m s.args.w s.args.words.now)) c.if-pivot-rank.words
 brought c =
-    let a = c.before.before.args in
+    let a = c.args in
     ⊎_elim (λ v. rw v.5 v.2.ensures)
-    (λ v. became_same a.m a.w (a.col / 64) a.rank a.pivot a.words.now c.if1.words v.0.left v.1) c.if1.branch
+    (λ v. became_same a.m a.w (a.col / 64) a.rank a.pivot a.words.now c.if-pivot-rank.words v.0.left v.1) c.if-pivot-rank.branch
 
 pub take_pivot_spec : {M : Type 1} → statement M
 take_pivot_spec =
@@ -25,4 +25,4 @@ take_pivot_spec =
     (λ c κs. search rules)  -- swap-rows-requires
     (λ c κs. let b = brought c.before in search rules)  -- clear-below-requires
     (λ c. let b = brought c.before.before.before.before in search rules)  -- same-length
-    (λ c. became_then (clear_below c.before.before.before.before.before.before.args.col c.before.before.before.before.before.before.args.rank) (brought c.before.before.before.before) c.before.before.clear-below.ensures))
+    (λ c. became_then (clear_below c.args.col c.args.rank) (brought c.before.before.before.before) c.clear_below.ensures))

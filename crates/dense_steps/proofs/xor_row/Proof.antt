@@ -8,24 +8,24 @@ use Rattle.dense_steps.proofs.xor_row.Tie as tie
 
 returns : tie.Need-returns
 returns c =
-    let s = c.before.before.before.before.before.before.before.before.before in
+    let s = c in
     xored_became s.args.m s.args.w s.args.words.now s.requires.4 s.args.word s.args.i s.args.j s.requires.0 s.requires.1 s.requires.2 s.requires.3 _ _
-    c.before.before.before.before.before.before.xor-words.ensures c.before.before.xor-words2.ensures
+    c.xor_words.ensures c.xor_words-2.ensures
 
 pub xor_row_spec : {M : Type 1} → statement M
 xor_row_spec =
     tie.close
     (tie.spec
-    (λ c. let s = c.before.before in let h = rows_within s.args.i s.args.j s.args.m s.args.w s.requires.1 s.requires.2 in search rules)  -- mul-xor-words
-    (λ c. let s = c.before.before in let h = rows_within s.args.i s.args.j s.args.m s.args.w s.requires.1 s.requires.2 in search rules)  -- add-xor-words
-    (λ c. let s = c.before.before in let h = rows_within s.args.i s.args.j s.args.m s.args.w s.requires.1 s.requires.2 in search rules)  -- mul-xor-words-2
-    (λ c. let s = c.before.before in let h = rows_within s.args.i s.args.j s.args.m s.args.w s.requires.1 s.requires.2 in search rules)  -- add-xor-words-2
+    (λ c. let s = c in let h = rows_within s.args.i s.args.j s.args.m s.args.w s.requires.1 s.requires.2 in search rules)  -- mul-xor-words
+    (λ c. let s = c in let h = rows_within s.args.i s.args.j s.args.m s.args.w s.requires.1 s.requires.2 in search rules)  -- add-xor-words
+    (λ c. let s = c in let h = rows_within s.args.i s.args.j s.args.m s.args.w s.requires.1 s.requires.2 in search rules)  -- mul-xor-words-2
+    (λ c. let s = c in let h = rows_within s.args.i s.args.j s.args.m s.args.w s.requires.1 s.requires.2 in search rules)  -- add-xor-words-2
     (λ c. search rules)  -- sub-xor-words
-    (λ c κs. let s = c.before.before in let h = rows_within s.args.i s.args.j s.args.m s.args.w s.requires.1 s.requires.2 in (apart_rows s.args.i s.args.j s.args.w s.args.word s.requires.3 s.requires.0, omega (arith, s.requires), omega (arith, s.requires)))  -- xor-words-requires
+    (λ c κs. let s = c in let h = rows_within s.args.i s.args.j s.args.m s.args.w s.requires.1 s.requires.2 in (apart_rows s.args.i s.args.j s.args.w s.args.word s.requires.3 s.requires.0, omega (arith, s.requires), omega (arith, s.requires)))  -- xor-words-requires
     (λ c. search rules)  -- mul-xor-words-3
     (λ c. search rules)  -- add-xor-words-3
     (λ c. search rules)  -- mul-xor-words-4
     (λ c. search rules)  -- add-xor-words-4
-    (λ c κs. let s = c.before.before.before.before.before.before in (apart_cells s.args.i s.args.j (s.args.m * s.args.w) s.requires.3, search rules, search rules))  -- xor-words-requires-2
+    (λ c κs. let s = c in (apart_cells s.args.i s.args.j (s.args.m * s.args.w) s.requires.3, search rules, search rules))  -- xor-words-requires-2
     (λ c. search rules)  -- same-length
     returns)

@@ -6,10 +6,10 @@ use Rattle.dense_steps.proofs.Xoring.{Xoring, xoring_begin, xoring_turn, xoring_
 use Rattle.dense_steps.proofs.xor_words.Statement.{statement}
 use Rattle.dense_steps.proofs.xor_words.Tie as tie
 
-abbrev invariant_loop : tie.invariant-loop
+abbrev invariant_loop : tie.invariant-loop-k
 invariant_loop words₀ from to n k₀ words k = Xoring words₀ from to n k words
 
-abbrev decreases_loop : tie.decreases-loop
+abbrev decreases_loop : tie.decreases-loop-k
 decreases_loop words₀ from to n k₀ words k = n - k
 
 pub xor_words_spec : {M : Type 1} → statement M

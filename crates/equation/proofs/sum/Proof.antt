@@ -19,60 +19,60 @@ use Rattle.equation.proofs.sum.Statement.{statement}
 use Rattle.equation.proofs.sum.Tie as tie
 
 -- what the calls of `increasing` tell of the two lists, by the branch on them
-left_rises : (c : tie.Else3) → rises c.before.before.before.before.before.before.before.args.left.now ≡ true
-left_rises c = sym c.before.increasing.ensures ∙ not-false _ c.if3.false
+left_rises : (c : tie.Else-not-increasing) → rises c.args.left.now ≡ true
+left_rises c = sym c.increasing.ensures ∙ c.if-not-increasing.false
 
-right_rises : (c : tie.Else4) → rises c.before.before.before.before.before.before.before.before.before.args.right.now ≡ true
-right_rises c = sym c.before.increasing2.ensures ∙ not-false _ c.if4.false
+right_rises : (c : tie.Else-not-increasing-2) → rises c.args.right.now ≡ true
+right_rises c = sym c.increasing-2.ensures ∙ c.if-not-increasing-2.false
 
 -- the lists that were lent; their sum is no longer than both together
-abbrev left : tie.After-add-ptr → List ℕ
-left a = a.before.before.before.before.before.before.before.before.before.before.before.before.args.left.now
+abbrev left : tie.After-add_ptr-len → List ℕ
+left a = a.args.left.now
 
-abbrev right : tie.After-add-ptr → List ℕ
-right a = a.before.before.before.before.before.before.before.before.before.before.before.before.args.right.now
+abbrev right : tie.After-add_ptr-len → List ℕ
+right a = a.args.right.now
 
-sum_short : (a : tie.After-add-ptr) → length (sym_diff (left a) (right a)) ≤ length (left a) + length (right a)
+sum_short : (a : tie.After-add_ptr-len) → length (sym_diff (left a) (right a)) ≤ length (left a) + length (right a)
 sum_short a = length-sym_diff-le (left a) (right a)
 
-returns : tie.Need-returns
+returns : tie.Need-returns-then-left-gt-MAX_SUMMED
 unfolding sum_call
-returns c = simp (c.refusal.ensures, lt-leb _ _ c.before.if1.true) sum_tells
+returns c = simp (c.refusal.ensures, lt-leb _ _ c.if-left-gt-MAX_SUMMED.true) sum_tells
 
-returns_2 : tie.Need-returns-2
+returns_2 : tie.Need-returns-then-right-gt-MAX_SUMMED
 unfolding sum_call
-returns_2 c = simp (c.refusal2.ensures, le-leb _ _ c.before.before.if1.false, lt-leb _ _ c.before.if2.true) sum_tells
+returns_2 c = simp (c.refusal-then-right-gt-MAX_SUMMED.ensures, le-leb _ _ c.if-left-gt-MAX_SUMMED.false, lt-leb _ _ c.if-right-gt-MAX_SUMMED.true) sum_tells
 
-returns_3 : tie.Need-returns-3
+returns_3 : tie.Need-returns-then-not-increasing
 unfolding sum_call
 returns_3 c =
-    let i = c.before.before in
-    simp (c.refusal3.ensures, le-leb _ _ i.before.before.if1.false, le-leb _ _ i.before.if2.false, sym i.increasing.ensures ∙ not-true _ c.before.if3.true) sum_tells
+    let i = c in
+    simp (c.refusal-then-not-increasing.ensures, le-leb _ _ i.if-left-gt-MAX_SUMMED.false, le-leb _ _ i.if-right-gt-MAX_SUMMED.false, sym i.increasing.ensures ∙ c.if-not-increasing.true) sum_tells
 
-returns_4 : tie.Need-returns-4
+returns_4 : tie.Need-returns-then-not-increasing-2
 unfolding sum_call
 returns_4 c =
-    let j = c.before.before in
-    let i = j.before.before in
-    simp (c.refusal4.ensures, le-leb _ _ i.before.before.if1.false, le-leb _ _ i.before.if2.false, left_rises j.before, sym j.increasing2.ensures ∙ not-true _ c.before.if4.true) sum_tells
+    let j = c in
+    let i = j in
+    simp (c.refusal-then-not-increasing-2.ensures, le-leb _ _ i.if-left-gt-MAX_SUMMED.false, le-leb _ _ i.if-right-gt-MAX_SUMMED.false, left_rises j.before.before.before, sym j.increasing-2.ensures ∙ c.if-not-increasing-2.true) sum_tells
 
-returns_5 : tie.Need-returns-5
+returns_5 : tie.Need-returns-then-out-left
 unfolding sum_call
 returns_5 c =
-    let e = c.before.before in
-    let i = e.before.before.before in
-    simp (c.refusal5.ensures, le-leb _ _ i.before.before.if1.false, le-leb _ _ i.before.if2.false, left_rises e.before.before, right_rises e, lt-leb _ _ c.before.if5.true) sum_tells
+    let e = c in
+    let i = e in
+    simp (c.refusal-then-out-left.ensures, le-leb _ _ i.if-left-gt-MAX_SUMMED.false, le-leb _ _ i.if-right-gt-MAX_SUMMED.false, left_rises e.before.before.before.before, right_rises e.before.before, lt-leb _ _ c.if-out-left.true) sum_tells
 
-returns_6 : tie.Need-returns-6
+returns_6 : tie.Need-returns
 unfolding sum_call
 returns_6 c =
-    let z = c.before.before in
-    let a = z.before.before.before.before in
-    let e = a.before.before.before in
-    let i = e.before.before.before in
-    let g = a.add-ptr.ensures in
-    let shared = common_half (left a) (right a) _ (rises_increasing _ (left_rises e.before.before)) (rises_increasing _ (right_rises e)) refl in
-    simp (settle_front (sym_diff (left a) (right a)) _ (length (left a) + length (right a)) (omega (arith, sum_short a, a.before.before.if5.false)) g.0 g.1 z.zero-numbers.ensures, g.0, shared, le-leb _ _ i.before.before.if1.false, le-leb _ _ i.before.if2.false, left_rises e.before.before, right_rises e, le-leb _ _ a.before.before.if5.false) sum_tells
+    let z = c in
+    let a = z in
+    let e = a in
+    let i = e in
+    let g = a.add_ptr-len.ensures in
+    let shared = common_half (left a.before.before.before.before.before.before) (right a.before.before.before.before.before.before) _ (rises_increasing _ (left_rises e.before.before.before.before.before.before.before.before.before.before.before)) (rises_increasing _ (right_rises e.before.before.before.before.before.before.before.before.before)) refl in
+    simp (settle_front (sym_diff (left a.before.before.before.before.before.before) (right a.before.before.before.before.before.before)) _ (length (left a.before.before.before.before.before.before) + length (right a.before.before.before.before.before.before)) (omega (arith, sum_short a.before.before.before.before.before.before, a.if-out-left.false)) g.0 g.1 z.zero_numbers.ensures, g.0, shared, le-leb _ _ i.if-left-gt-MAX_SUMMED.false, le-leb _ _ i.if-right-gt-MAX_SUMMED.false, left_rises e.before.before.before.before.before.before.before.before.before.before.before, right_rises e.before.before.before.before.before.before.before.before.before, le-leb _ _ a.if-out-left.false) sum_tells
 
 pub sum_spec : {M : Type 1} → statement M
 sum_spec =
@@ -95,6 +95,6 @@ sum_spec =
     (λ c. search rules)  -- add-zero-numbers
     (λ c κs. let h = sum_short c.before.before.before in search rules)  -- zero-numbers-requires
     (λ c. search rules)  -- add-t14
-    (λ c. let a = c.before.before.before.before.before.before in omega (arith, sum_short a, a.add-ptr.ensures.0))  -- sub-t7
+    (λ c. let a = c in omega (arith, sum_short a.before.before.before.before.before.before, a.add_ptr-len.ensures.0))  -- sub-t7
     (λ c. search rules)  -- same-length
     returns_6)

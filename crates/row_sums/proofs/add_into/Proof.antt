@@ -6,18 +6,18 @@ use borrow.Author.Rules.{rules}
 use Rattle.row_sums.proofs.add_into.Statement.{statement}
 use Rattle.row_sums.proofs.add_into.Tie as tie
 
-copy_within_numbers_requires : tie.Need-copy-within-numbers-requires
+copy_within_numbers_requires : tie.Need-copy_within_numbers-requires
 copy_within_numbers_requires c κs = (omega arith, omega arith, inr (omega arith))
 
 returns : tie.Need-returns
 returns c =
-    let z2 = c.before.before in
-    let z1 = z2.before.before.before.before in
-    let t = z1.before.before in
-    let k = t.before.before.before in
-    let g = k.before.before.before.before in
-    let s = g.before.before.before in
-    settled s.requires g.add-ptr-in.ensures.0 g.add-ptr-in.ensures.1.1 k.copy-within-numbers.ensures t.larger.ensures z1.zero-numbers.ensures z2.zero-numbers2.ensures
+    let z2 = c in
+    let z1 = z2 in
+    let t = z1 in
+    let k = t in
+    let g = k in
+    let s = g in
+    settled s.requires g.add_ptr_in-len.ensures.0 g.add_ptr_in-len.ensures.1.1 k.copy_within_numbers.ensures t.larger-top.ensures z1.zero_numbers.ensures z2.zero_numbers-2.ensures
 
 pub add_into_spec : {M : Type 1} → statement M
 add_into_spec =

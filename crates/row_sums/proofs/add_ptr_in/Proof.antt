@@ -7,26 +7,26 @@ use Rattle.row_sums.proofs.GatherRows.{gather_rows}
 use Rattle.row_sums.proofs.add_ptr_in.Statement.{statement}
 use Rattle.row_sums.proofs.add_ptr_in.Tie as tie
 
-abbrev start : tie.After-merge-in → tie.Start
+abbrev start : tie.After-merge_in-m → tie.Start
 start m = m.before.before.before
 
 -- what is left of the rows once the merge is done
-ends : (m : tie.After-merge-in) → Rests (start m).args.n (start m).args.li (start m).args.lj m.merge_in.result.left m.merge_in.result.right m.merge_in.result.out
-ends m = rests (start m).requires m.merge_in.ensures.0
+ends : (m : tie.After-merge_in-m) → Rests (start m).args.n (start m).args.li (start m).args.lj m.merge_in-m.result.left m.merge_in-m.result.right m.merge_in-m.result.out
+ends m = rests (start m).requires m.merge_in-m.ensures.0
 
-copy_within_numbers_requires : tie.Need-copy-within-numbers-requires
+copy_within_numbers_requires : tie.Need-copy_within_numbers-requires
 copy_within_numbers_requires c κs = let h = ends c.before.before.before in (omega arith, omega arith, inl (omega arith))
 
-copy_within_numbers_requires_2 : tie.Need-copy-within-numbers-requires-2
+copy_within_numbers_requires_2 : tie.Need-copy_within_numbers-requires-2
 copy_within_numbers_requires_2 c κs = let h = ends c.before.before.before.before.before.before.before in (omega arith, omega arith, inl (omega arith))
 
 returns : tie.Need-returns
 returns c =
-    let k2 = c.before.before in
-    let k1 = k2.before.before.before.before in
-    let m = k1.before.before.before.before in
-    let g = gather_rows (start m).requires m.merge_in.ensures.0 m.merge_in.ensures.1 k1.copy-within-numbers.ensures k2.copy-within-numbers2.ensures in
-    let h = ends m in
+    let k2 = c in
+    let k1 = k2 in
+    let m = k1 in
+    let g = gather_rows (start m.before.before.before.before.before.before.before.before.before.before).requires m.merge_in-m.ensures.0 m.merge_in-m.ensures.1 k1.copy_within_numbers.ensures k2.copy_within_numbers-2.ensures in
+    let h = ends m.before.before.before.before.before.before.before.before.before.before in
     (g.0, (h.fits, g.1))
 
 pub add_ptr_in_spec : {M : Type 1} → statement M

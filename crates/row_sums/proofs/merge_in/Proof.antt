@@ -8,29 +8,29 @@ use Rattle.row_sums.proofs.InRoom.{MergingIn, merging_begin, less_low, more_low,
 use Rattle.row_sums.proofs.merge_in.Statement.{statement}
 use Rattle.row_sums.proofs.merge_in.Tie as tie
 
-abbrev invariant_loop : tie.invariant-loop
+abbrev invariant_loop : tie.invariant-loop-i
 invariant_loop area₀ n p li q lj s i₀ j₀ d₀ area i j d = MergingIn area₀ n p li q lj s area i j d
 
-abbrev decreases_loop : tie.decreases-loop
+abbrev decreases_loop : tie.decreases-loop-i
 decreases_loop area₀ n p li q lj s i₀ j₀ d₀ area i j d = (li - i) + (lj - j)
 
 -- there is room for the variable that is written
-low : (c : tie.Then2 invariant_loop decreases_loop) → c.before.before.before.before.before.before.args.s + c.before.before.before.before.before.loop.d < length c.before.before.before.before.before.loop.area
-low c = less_low c.before.before.before.before.before.loop.invariant (search rules) (omega (arith, ltb-true)) c.if2.true
+low : (c : tie.Then-l-r invariant_loop decreases_loop) → c.args.s + c.loop-i.d < length c.loop-i.area
+low c = less_low c.loop-i.invariant (search rules) (omega (arith, ltb-true)) c.if-l-r.true
 
-low_2 : (c : tie.Then3 invariant_loop decreases_loop)
-    → c.before.before.before.before.before.before.before.args.s + c.before.before.before.before.before.before.loop.d < length c.before.before.before.before.before.before.loop.area
-low_2 c = more_low c.before.before.before.before.before.before.loop.invariant (search rules) (omega (arith, ltb-true)) c.if3.true
+low_2 : (c : tie.Then-r-l invariant_loop decreases_loop)
+    → c.args.s + c.loop-i.d < length c.loop-i.area
+low_2 c = more_low c.loop-i.invariant (search rules) (omega (arith, ltb-true)) c.if-r-l.true
 
-returns : tie.Need-returns invariant_loop decreases_loop
+returns : tie.Need-returns-else-j-lj invariant_loop decreases_loop
 returns c =
-    let m = c.before.before.loop.invariant in
-    (right_over m (ltb-false _ _ c.if1.false), m.merged.written.so_far)
+    let m = c.loop-i.invariant in
+    (right_over m (c.if-j-lj.false), m.merged.written.so_far)
 
-returns_2 : tie.Need-returns-2 invariant_loop decreases_loop
+returns_2 : tie.Need-returns-after-loop-i invariant_loop decreases_loop
 returns_2 c =
-    let m = c.before.loop.invariant in
-    (left_over m c.loop-test.false, m.merged.written.so_far)
+    let m = c.loop-i.invariant in
+    (left_over m c.loop-i-test.false, m.merged.written.so_far)
 
 pub merge_in_spec : {M : Type 1} → statement M
 merge_in_spec =
@@ -51,18 +51,18 @@ merge_in_spec =
     (λ c. search rules)  -- add-i
     (λ c. let h = low c in search rules)  -- add-d
     (λ c. search rules)  -- loop-less
-    (λ c. merging_less c.before.before.before.before.before.loop.invariant (search rules) (omega (arith, ltb-true)) c.if2.true)  -- loop-again
+    (λ c. merging_less c.loop-i.invariant (search rules) (omega (arith, ltb-true)) c.if-l-r.true)  -- loop-again
     (λ c. let h = low_2 c in search rules)  -- add-area-2
     (λ c. let h = low_2 c in search rules)  -- mul-area-2
     (λ c. let h = low_2 c in search rules)  -- slice-write-area-2
     (λ c. omega (arith, ltb-true))  -- add-j
     (λ c. let h = low_2 c in search rules)  -- add-d-2
     (λ c. omega (arith, ltb-true))  -- loop-less-2
-    (λ c. merging_more c.before.before.before.before.before.before.loop.invariant (search rules) (omega (arith, ltb-true)) c.if3.true)  -- loop-again-2
+    (λ c. merging_more c.loop-i.invariant (search rules) (omega (arith, ltb-true)) c.if-r-l.true)  -- loop-again-2
     (λ c. search rules)  -- add-i-2
     (λ c. omega (arith, ltb-true))  -- add-j-2
     (λ c. omega (arith, ltb-true))  -- loop-less-3
-    (λ c. merging_same c.before.before.before.before.before.before.loop.invariant (search rules) (omega (arith, ltb-true)) c.before.if2.false c.if3.false)  -- loop-again-3
+    (λ c. merging_same c.loop-i.invariant (search rules) (omega (arith, ltb-true)) c.if-l-r.false c.if-r-l.false)  -- loop-again-3
     (λ c. search rules)  -- same-length
     returns
     (λ c. search rules)  -- same-length-2

@@ -4,14 +4,14 @@ use borrow.Author.Rules.{rules}
 use Rattle.stack_steps.proofs.fast_pop.Statement.{statement}
 use Rattle.stack_steps.proofs.fast_pop.Tie as tie
 
-returns : tie.Need-returns
-returns c = simp (lt-leb _ _ c.if1.true)
+returns : tie.Need-returns-then-stack-lower
+returns c = simp (lt-leb _ _ c.if-stack-lower.true)
 
-returns_2 : tie.Need-returns-2
-returns_2 c = simp (le-leb _ _ c.before.if1.false, eq-eqb _ _ c.if2.true)
+returns_2 : tie.Need-returns-then-lower-eq0
+returns_2 c = simp (le-leb _ _ c.if-stack-lower.false, eq-eqb _ _ c.if-lower-eq0.true)
 
-returns_3 : tie.Need-returns-3
-returns_3 c = simp (le-leb _ _ c.before.before.if1.false, ne_eqb _ _ c.before.if2.false)
+returns_3 : tie.Need-returns
+returns_3 c = simp (le-leb _ _ c.if-stack-lower.false, ne_eqb _ _ c.if-lower-eq0.false)
 
 pub fast_pop_spec : {M : Type 1} → statement M
 fast_pop_spec =

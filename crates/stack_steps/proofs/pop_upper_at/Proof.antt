@@ -4,17 +4,17 @@ use borrow.Author.Rules.{rules}
 use Rattle.stack_steps.proofs.pop_upper_at.Statement.{statement}
 use Rattle.stack_steps.proofs.pop_upper_at.Tie as tie
 
-returns : tie.Need-returns
-returns c = simp (lt-leb _ _ c.if1.true)
+returns : tie.Need-returns-then-stack-upper
+returns c = simp (lt-leb _ _ c.if-stack-upper.true)
 
-returns_2 : tie.Need-returns-2
-returns_2 c = simp (le-leb _ _ c.before.if1.false, lt-leb _ _ c.if2.true)
+returns_2 : tie.Need-returns-then-upper-lower
+returns_2 c = simp (le-leb _ _ c.if-stack-upper.false, lt-leb _ _ c.if-upper-lower.true)
 
-returns_3 : tie.Need-returns-3
-returns_3 c = simp (le-leb _ _ c.before.before.if1.false, le-leb _ _ c.before.if2.false, eq-eqb _ _ c.if3.true)
+returns_3 : tie.Need-returns-then-upper-stack
+returns_3 c = simp (le-leb _ _ c.if-stack-upper.false, le-leb _ _ c.if-upper-lower.false, eq-eqb _ _ c.if-upper-stack.true)
 
-returns_4 : tie.Need-returns-4
-returns_4 c = simp (le-leb _ _ c.before.before.before.if1.false, le-leb _ _ c.before.before.if2.false, ne_eqb _ _ c.before.if3.false)
+returns_4 : tie.Need-returns
+returns_4 c = simp (le-leb _ _ c.if-stack-upper.false, le-leb _ _ c.if-upper-lower.false, ne_eqb _ _ c.if-upper-stack.false)
 
 pub pop_upper_at_spec : {M : Type 1} → statement M
 pop_upper_at_spec =

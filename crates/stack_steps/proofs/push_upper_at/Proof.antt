@@ -5,14 +5,14 @@ use borrow.Author.Rules.{rules}
 use Rattle.stack_steps.proofs.push_upper_at.Statement.{statement}
 use Rattle.stack_steps.proofs.push_upper_at.Tie as tie
 
-returns : tie.Need-returns
-returns c = simp (lt-leb _ _ c.if1.true) (refl, refl)
+returns : tie.Need-returns-then-stack-upper
+returns c = simp (lt-leb _ _ c.if-stack-upper.true) (refl, refl)
 
-returns_2 : tie.Need-returns-2
-returns_2 c = simp (le-leb _ _ c.before.if1.false, le-ltb _ _ c.if2.true) (refl, refl)
+returns_2 : tie.Need-returns-then-upper-lower
+returns_2 c = simp (le-leb _ _ c.if-stack-upper.false, le-ltb _ _ c.if-upper-lower.true) (refl, refl)
 
-returns_3 : tie.Need-returns-3
-returns_3 c = simp (le-leb _ _ c.before.if1.false, lt-ltb _ _ c.if2.false) (refl, refl)
+returns_3 : tie.Need-returns
+returns_3 c = simp (le-leb _ _ c.if-stack-upper.false, lt-ltb _ _ c.if-upper-lower.false) (refl, refl)
 
 pub push_upper_at_spec : {M : Type 1} → statement M
 push_upper_at_spec =

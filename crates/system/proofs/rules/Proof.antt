@@ -7,50 +7,50 @@ use Rattle.system.proofs.Soundness.{sizes_sound, shape_starts}
 use Rattle.system.proofs.rules.Statement.{statement}
 use Rattle.system.proofs.rules.Tie as tie
 
-returns : tie.Need-returns
+returns : tie.Need-returns-then-not-sizes_fit
 unfolding system_rules
-returns c = simp (sym c.before.sizes-fit.ensures ∙ not-true _ c.if1.true)
+returns c = simp (sym c.sizes_fit.ensures ∙ c.if-not-sizes_fit.true)
 
-shape_kept_requires : tie.Need-shape-kept-requires
+shape_kept_requires : tie.Need-shape_kept-requires
 shape_kept_requires c κs =
-    let a = c.before.before.before.before.before.args in
-    (sizes_sound a.n a.m a.starts.now a.vars.now a.constants.now (sym c.before.sizes-fit.ensures ∙ not-false _ c.if1.false)).1
+    let a = c.args in
+    (sizes_sound a.n a.m a.starts.now a.vars.now a.constants.now (sym c.sizes_fit.ensures ∙ c.if-not-sizes_fit.false)).1
 
-returns_2 : tie.Need-returns-2
+returns_2 : tie.Need-returns-then-not-shape_kept
 unfolding system_rules
 returns_2 c =
-    let d = c.before.before in
-    simp (sym d.before.sizes-fit.ensures ∙ not-false _ d.if1.false, sym c.before.shape-kept.ensures ∙ not-true _ c.if2.true)
+    let d = c in
+    simp (sym d.sizes_fit.ensures ∙ d.if-not-sizes_fit.false, sym c.shape_kept.ensures ∙ c.if-not-shape_kept.true)
 
-lowest_bad_requires : tie.Need-lowest-bad-requires
+lowest_bad_requires : tie.Need-lowest_bad-bad-requires
 lowest_bad_requires c κs =
-    let a = c.before.before.before.before.before.before.before.args in
-    shape_starts a.n a.m a.starts.now a.vars.now a.constants.now (sym c.before.shape-kept.ensures ∙ not-false _ c.if2.false)
+    let a = c.args in
+    shape_starts a.n a.m a.starts.now a.vars.now a.constants.now (sym c.shape_kept.ensures ∙ c.if-not-shape_kept.false)
 
-returns_3 : tie.Need-returns-3
+returns_3 : tie.Need-returns-then-bad-m
 unfolding system_rules
 returns_3 c =
-    let e = c.before.before in
-    let d = e.before.before in
-    let a = d.before.before.before.before.before.args in
+    let e = c in
+    let d = e in
+    let a = d.args in
     simp (
-      sym d.before.sizes-fit.ensures ∙ not-false _ d.if1.false,
-      sym e.before.shape-kept.ensures ∙ not-false _ e.if2.false,
-      sym (c.before.lowest-bad.ensures a.constants.now),
-      lt-ltb _ _ c.if3.true,
+      sym d.sizes_fit.ensures ∙ d.if-not-sizes_fit.false,
+      sym e.shape_kept.ensures ∙ e.if-not-shape_kept.false,
+      sym (c.lowest_bad-bad.ensures a.constants.now),
+      lt-ltb _ _ c.if-bad-m.true,
     )
 
-returns_4 : tie.Need-returns-4
+returns_4 : tie.Need-returns
 unfolding system_rules
 returns_4 c =
-    let e = c.before.before in
-    let d = e.before.before in
-    let a = d.before.before.before.before.before.args in
+    let e = c in
+    let d = e in
+    let a = d.args in
     simp (
-      sym d.before.sizes-fit.ensures ∙ not-false _ d.if1.false,
-      sym e.before.shape-kept.ensures ∙ not-false _ e.if2.false,
-      sym (c.before.lowest-bad.ensures a.constants.now),
-      le-ltb _ _ c.if3.false,
+      sym d.sizes_fit.ensures ∙ d.if-not-sizes_fit.false,
+      sym e.shape_kept.ensures ∙ e.if-not-shape_kept.false,
+      sym (c.lowest_bad-bad.ensures a.constants.now),
+      le-ltb _ _ c.if-bad-m.false,
     )
 
 pub rules_spec : {M : Type 1} → statement M

@@ -9,73 +9,73 @@ use Rattle.bench_draws.proofs.equations.draw_equation.Reads as reads
 use Rattle.bench_draws.proofs.equations.draw_equation.Lts as lts
 use Rattle.bench_draws.proofs.equations.draw_gap.Reads as draw-gap-reads
 
-abbrev invariant_loop : tie.invariant-loop
+abbrev invariant_loop : tie.invariant-loop-left
 invariant_loop seed₀ n count values vars₀ at row₀ sum₀ left₀ v₀ seed vars row sum left v = (length vars ≡ length vars₀) × (length row ≡ length row₀) × (left ≤ count) × (left + v ≤ n)
 
-abbrev decreases_loop : tie.decreases-loop
+abbrev decreases_loop : tie.decreases-loop-left
 decreases_loop seed₀ n count values vars₀ at row₀ sum₀ left₀ v₀ seed vars row sum left v = left
 
-loop_holds : tie.Need-loop-init invariant_loop decreases_loop
+loop_holds : tie.Need-loop-left-init invariant_loop decreases_loop
 loop_holds c = search rules
 
-sub_draw_gap : tie.Need-overflow-sub-draw-gap invariant_loop decreases_loop
+sub_draw_gap : tie.Need-overflow_sub-n invariant_loop decreases_loop
 sub_draw_gap c = search rules
 
-draw_gap_requires : tie.Need-draw-gap-requires invariant_loop decreases_loop
+draw_gap_requires : tie.Need-draw_gap-v-requires invariant_loop decreases_loop
 draw_gap_requires c κs = search rules
 
-add_v : tie.Need-overflow-add-v invariant_loop decreases_loop
+add_v : tie.Need-overflow_add-v invariant_loop decreases_loop
 add_v c = search rules
 
-cast_vars : tie.Need-overflow-cast-vars invariant_loop decreases_loop
+cast_vars : tie.Need-overflow_cast-vars invariant_loop decreases_loop
 cast_vars c = search rules
 
-add_vars : tie.Need-overflow-add-vars invariant_loop decreases_loop
+add_vars : tie.Need-overflow_add-vars invariant_loop decreases_loop
 add_vars c = search rules
 
-sub_vars : tie.Need-overflow-sub-vars invariant_loop decreases_loop
+sub_vars : tie.Need-overflow_sub-vars invariant_loop decreases_loop
 sub_vars c = search rules
 
-mul_vars : tie.Need-overflow-mul-vars invariant_loop decreases_loop
+mul_vars : tie.Need-offset_bounds-vars-at invariant_loop decreases_loop
 mul_vars c = search rules
 
-slice_write_vars : tie.Need-slice-write-vars invariant_loop decreases_loop
+slice_write_vars : tie.Need-bounds-vars-at invariant_loop decreases_loop
 slice_write_vars c = search rules
 
-shl_row : tie.Need-overflow-shl-row invariant_loop decreases_loop
+shl_row : tie.Need-overflow_shl-row invariant_loop decreases_loop
 shl_row c = search rules
 
-mul_row : tie.Need-overflow-mul-row invariant_loop decreases_loop
+mul_row : tie.Need-offset_bounds-row-v invariant_loop decreases_loop
 mul_row c = search rules
 
-slice_read_row : tie.Need-slice-read-row invariant_loop decreases_loop
+slice_read_row : tie.Need-bounds-row-v invariant_loop decreases_loop
 slice_read_row c = search rules
 
-slice_write_row : tie.Need-slice-write-row invariant_loop decreases_loop
+slice_write_row : tie.Need-bounds-row-v-in-loop-left invariant_loop decreases_loop
 slice_write_row c = search rules
 
-mul_sum : tie.Need-overflow-mul-sum invariant_loop decreases_loop
+mul_sum : tie.Need-offset_bounds-values-v invariant_loop decreases_loop
 mul_sum c = search rules
 
-shared_slice_read_sum : tie.Need-shared-slice-read-sum invariant_loop decreases_loop
+shared_slice_read_sum : tie.Need-bounds-values-v invariant_loop decreases_loop
 shared_slice_read_sum c = search rules
 
-add_v_2 : tie.Need-overflow-add-v-2 invariant_loop decreases_loop
+add_v_2 : tie.Need-overflow_add-v-in-loop-left invariant_loop decreases_loop
 add_v_2 c = search rules
 
-sub_left : tie.Need-overflow-sub-left invariant_loop decreases_loop
+sub_left : tie.Need-overflow_sub-left invariant_loop decreases_loop
 sub_left c = search rules
 
-loop_less : tie.Need-loop-smaller invariant_loop decreases_loop
+loop_less : tie.Need-loop-left-smaller invariant_loop decreases_loop
 loop_less c = search rules
 
-loop_again : tie.Need-loop-preserved invariant_loop decreases_loop
+loop_again : tie.Need-loop-left-preserved invariant_loop decreases_loop
 loop_again c = (search rules, search rules, search rules, search rules)
 
-same_length : tie.Need-same-length invariant_loop decreases_loop
+same_length : tie.Need-shape_of-vars invariant_loop decreases_loop
 same_length c = search rules
 
-same_length_2 : tie.Need-same-length-2 invariant_loop decreases_loop
+same_length_2 : tie.Need-shape_of-row invariant_loop decreases_loop
 same_length_2 c = search rules
 
 returns : tie.Need-returns invariant_loop decreases_loop

@@ -9,28 +9,28 @@ use Rattle.bench_draws.proofs.equations.draw_gap.Reads as reads
 use Rattle.bench_draws.proofs.equations.draw_gap.Lts as lts
 use Rattle.bench_draws.proofs.random.below.Reads as below-reads
 
-abbrev invariant_loop : tie.invariant-loop
+abbrev invariant_loop : tie.invariant-loop-gap
 invariant_loop seed₀ span left gap₀ seed gap = gap + left ≤ span
 
-abbrev decreases_loop : tie.decreases-loop
+abbrev decreases_loop : tie.decreases-loop-gap
 decreases_loop seed₀ span left gap₀ seed gap = span - gap
 
-loop_holds : tie.Need-loop-init invariant_loop decreases_loop
+loop_holds : tie.Need-loop-gap-init invariant_loop decreases_loop
 loop_holds c = search rules
 
-sub_below : tie.Need-overflow-sub-below invariant_loop decreases_loop
+sub_below : tie.Need-overflow_sub-span invariant_loop decreases_loop
 sub_below c = search rules
 
 below_requires : tie.Need-below-requires invariant_loop decreases_loop
 below_requires c κs = search rules
 
-add_gap : tie.Need-overflow-add-gap invariant_loop decreases_loop
+add_gap : tie.Need-overflow_add-gap invariant_loop decreases_loop
 add_gap c = search rules
 
-loop_less : tie.Need-loop-smaller invariant_loop decreases_loop
+loop_less : tie.Need-loop-gap-smaller invariant_loop decreases_loop
 loop_less c = search rules
 
-loop_again : tie.Need-loop-preserved invariant_loop decreases_loop
+loop_again : tie.Need-loop-gap-preserved invariant_loop decreases_loop
 loop_again c = search rules
 
 returns : tie.Need-returns invariant_loop decreases_loop

@@ -7,31 +7,31 @@ use Rattle.bench_draws.proofs.equations.draw_row.Reads as reads
 use Rattle.bench_draws.proofs.equations.draw_row.Lts as lts
 use Rattle.bench_draws.proofs.equations.draw_equation.Reads as draw-equation-reads
 
-mul_base : tie.Need-overflow-mul-base
-mul_base c = let s = c.before.before.before in let r = row_before s.args.i s.args.m s.args.w (omega arith) in search rules
+mul_base : tie.Need-overflow_mul-base
+mul_base c = let s = c in let r = row_before s.args.i s.args.m s.args.w (omega arith) in search rules
 
-add_end : tie.Need-overflow-add-end
-add_end c = let s = c.before.before.before in let r = row_before s.args.i s.args.m s.args.w (omega arith) in search rules
+add_end : tie.Need-overflow_add-end
+add_end c = let s = c in let r = row_before s.args.i s.args.m s.args.w (omega arith) in search rules
 
-mul_draw_equation : tie.Need-overflow-mul-draw-equation
-mul_draw_equation c = let s = c.before.before.before.before.before in let r = row_before s.args.i s.args.m s.args.w (omega arith) in search rules
+mul_draw_equation : tie.Need-offset_bounds-rows-base
+mul_draw_equation c = let s = c in let r = row_before s.args.i s.args.m s.args.w (omega arith) in search rules
 
-sub_draw_equation : tie.Need-overflow-sub-draw-equation
+sub_draw_equation : tie.Need-slice_bounds-draw_equation-count
 sub_draw_equation c = search rules
 
-part_draw_equation_start : tie.Need-slice-bounds-draw-equation-start
+part_draw_equation_start : tie.Need-slice_bounds-draw_equation-start
 part_draw_equation_start c = search rules
 
-part_draw_equation_end : tie.Need-slice-bounds-draw-equation-end
-part_draw_equation_end c = let s = c.before.before.before.before.before in let r = row_before s.args.i s.args.m s.args.w (omega arith) in search rules
+part_draw_equation_end : tie.Need-slice_bounds-draw_equation-end
+part_draw_equation_end c = let s = c in let r = row_before s.args.i s.args.m s.args.w (omega arith) in search rules
 
-draw_equation_requires : tie.Need-draw-equation-requires
+draw_equation_requires : tie.Need-draw_equation-requires
 draw_equation_requires c κs = search rules
 
-same_length : tie.Need-same-length
+same_length : tie.Need-shape_of-vars
 same_length c = search rules
 
-same_length_2 : tie.Need-same-length-2
+same_length_2 : tie.Need-shape_of-rows
 same_length_2 c = search rules
 
 returns : tie.Need-returns

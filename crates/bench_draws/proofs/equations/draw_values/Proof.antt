@@ -5,16 +5,16 @@ use borrow.Author.Rules.{rules}
 use Rattle.bench_draws.proofs.equations.draw_values.Statement.{statement}
 use Rattle.bench_draws.proofs.equations.draw_values.Tie as tie
 
-abbrev invariant_loop : tie.invariant-loop
+abbrev invariant_loop : tie.invariant-loop-i
 invariant_loop seed₀ bits values₀ i₀ seed values i = Values bits (length values₀) seed₀ i seed values
 
-abbrev decreases_loop : tie.decreases-loop
+abbrev decreases_loop : tie.decreases-loop-i
 decreases_loop seed₀ bits values₀ i₀ seed values i = length values₀ - i
 
-loop_again : tie.Need-loop-preserved invariant_loop decreases_loop
+loop_again : tie.Need-loop-i-preserved invariant_loop decreases_loop
 loop_again c =
     let e = c.draw.ensures in
-    values_turn c.before.before.before.loop.invariant c.before.before.loop-test.true (rw e.0) e.1
+    values_turn c.loop-i.invariant c.loop-i-test.true (rw e.0) e.1
 
 pub draw_values_spec : {M : Type 1} → statement M
 draw_values_spec =
@@ -33,4 +33,4 @@ draw_values_spec =
     (λ c. search rules)  -- loop-less
     loop_again
     (λ c. search rules)  -- same-length
-    (λ c. values_end c.before.loop.invariant c.loop-test.false))
+    (λ c. values_end c.loop-i.invariant c.loop-i-test.false))

@@ -5,15 +5,15 @@ use borrow.Author.Rules.{rules}
 use Rattle.bench_draws.proofs.equations.spoil.Statement.{statement}
 use Rattle.bench_draws.proofs.equations.spoil.Tie as tie
 
-returns : tie.Need-returns
-returns c = simp (eq-eqb _ _ c.if1.true) (refl, refl)
+returns : tie.Need-returns-then-m-eq0
+returns c = simp (eq-eqb _ _ c.if-m-eq0.true) (refl, refl)
 
-returns_2 : tie.Need-returns-2
+returns_2 : tie.Need-returns
 unfolding after
 returns_2 c =
-    let i = c.before.before.before.below.ensures in
-    let bit = c.before.below2.ensures in
-    simp (ne_eqb _ _ c.before.before.before.before.before.if1.false, bit.2, bit.0, i.2, i.0) (refl, refl)
+    let i = c.below-i.ensures in
+    let bit = c.below-bit.ensures in
+    simp (ne_eqb _ _ c.if-m-eq0.false, bit.2, bit.0, i.2, i.0) (refl, refl)
 
 pub spoil_spec : {M : Type 1} → statement M
 spoil_spec =

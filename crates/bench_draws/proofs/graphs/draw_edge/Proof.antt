@@ -5,13 +5,13 @@ use Rattle.bench_draws.proofs.graphs.draw_edge.Tie as tie
 
 returns : tie.Need-returns
 returns c =
-    let value = c.before.before.before.draw.ensures in
-    let k = c.before.before.before.before.before.skip.ensures in
-    let j = c.before.before.before.before.before.before.below3.ensures in
-    let i = c.before.before.before.before.before.before.before.before.below2.ensures in
-    let a = c.before.before.before.before.before.before.before.before.before.before.below.ensures in
-    edge_drawn _ _ _ _ _ _ _ _ _ _ _ _ _ _ _ a.0 a.2 i.0 i.2 j.0 j.2 k.0 value.0 value.1 c.before.before.vertex-past.ensures c.before.vertex-past2.ensures
-    c.vertex-past3.ensures
+    let value = c.draw-value.ensures in
+    let k = c.skip-k.ensures in
+    let j = c.below-j.ensures in
+    let i = c.below-i.ensures in
+    let a = c.below-a.ensures in
+    edge_drawn _ _ _ _ _ _ _ _ _ _ _ _ _ _ _ a.0 a.2 i.0 i.2 j.0 j.2 k.0 value.0 value.1 c.vertex_past.ensures c.vertex_past-2.ensures
+    c.vertex_past-3.ensures
 
 pub draw_edge_spec : {M : Type 1} → statement M
 draw_edge_spec =

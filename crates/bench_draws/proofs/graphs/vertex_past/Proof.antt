@@ -7,13 +7,13 @@ use Rattle.bench_draws.proofs.graphs.vertex_past.Tie as tie
 use Rattle.bench_draws.proofs.graphs.vertex_past.Reads as reads
 use Rattle.bench_draws.proofs.graphs.vertex_past.Lts as lts
 
-add_t4 : tie.Need-overflow-add-t4
+add_t4 : tie.Need-overflow_add-result
 add_t4 c = search rules
 
-rem_t5 : tie.Need-nonzero-rem-t5
+rem_t5 : tie.Need-nonzero_rem-result
 rem_t5 c = search rules
 
-cast_t6 : tie.Need-overflow-cast-t6
+cast_t6 : tie.Need-overflow_cast-result
 cast_t6 c = let h : 0 < c.args.n = omega arith in omega (arith, mod-lt (c.args.a + c.args.step) h)
 
 returns : tie.Need-returns

@@ -4,7 +4,7 @@ use Rattle.bench_draws.proofs.random.below.Statement.{statement}
 use Rattle.bench_draws.proofs.random.below.Tie as tie
 
 returns : tie.Need-returns
-returns c = let e = c.draw.ensures in (rw e.0, mod-lt _ c.before.before.requires, e.1)
+returns c = let e = c.draw-x.ensures in (rw e.0, mod-lt _ c.requires, e.1)
 
 pub below_spec : {M : Type 1} → statement M
 below_spec =

@@ -6,10 +6,10 @@ use Rattle.dense_rows.proofs.Emptiness.{Fitting, fitting_begin, fitting_found, f
 use Rattle.dense_rows.proofs.fits.row_fits.Statement.{statement}
 use Rattle.dense_rows.proofs.fits.row_fits.Tie as tie
 
-abbrev invariant_loop : tie.invariant-loop
+abbrev invariant_loop : tie.invariant-loop-j
 invariant_loop rows at w n bit₀ j₀ bit j = Fitting rows at w n bit j
 
-abbrev decreases_loop : tie.decreases-loop
+abbrev decreases_loop : tie.decreases-loop-j
 decreases_loop rows at w n bit₀ j₀ bit j = w - j
 
 pub row_fits_spec : {M : Type 1} → statement M

@@ -7,10 +7,10 @@ use Rattle.dense_rows.proofs.Searching.{Searching, searching_begin, searching_pl
 use Rattle.dense_rows.proofs.search.find_pivot.Statement.{statement}
 use Rattle.dense_rows.proofs.search.find_pivot.Tie as tie
 
-abbrev invariant_loop : tie.invariant-loop
+abbrev invariant_loop : tie.invariant-loop-i
 invariant_loop words m w col rank word bit i₀ i = Searching words m w col rank word bit i
 
-abbrev decreases_loop : tie.decreases-loop
+abbrev decreases_loop : tie.decreases-loop-i
 decreases_loop words m w col rank word bit i₀ i = m - i
 
 pub find_pivot_spec : {M : Type 1} → statement M
@@ -21,10 +21,10 @@ find_pivot_spec =
     decreases_loop
     (λ c. search rules)  -- shl-bit
     (λ c. search (rules, searching_begin, column_of))  -- loop-holds
-    (λ c. let h = searching_place c.before.loop.invariant c.loop-test.true in search rules)  -- mul-if1
-    (λ c. let h = searching_place c.before.loop.invariant c.loop-test.true in search rules)  -- add-if1
-    (λ c. let h = searching_place c.before.loop.invariant c.loop-test.true in search rules)  -- mul-if1-2
-    (λ c. let h = searching_place c.before.before.loop.invariant c.before.loop-test.true in search rules)  -- shared-slice-read-if1
+    (λ c. let h = searching_place c.loop-i.invariant c.loop-i-test.true in search rules)  -- mul-if1
+    (λ c. let h = searching_place c.loop-i.invariant c.loop-i-test.true in search rules)  -- add-if1
+    (λ c. let h = searching_place c.loop-i.invariant c.loop-i-test.true in search rules)  -- mul-if1-2
+    (λ c. let h = searching_place c.loop-i.invariant c.loop-i-test.true in search rules)  -- shared-slice-read-if1
     (λ c. search (rules, searching_found))  -- returns
     (λ c. search rules)  -- add-i
     (λ c. search rules)  -- loop-less

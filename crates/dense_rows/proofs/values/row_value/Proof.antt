@@ -6,10 +6,10 @@ use Rattle.dense_rows.proofs.SetBits.{Summing, summing_begin, summing_listed, su
 use Rattle.dense_rows.proofs.values.row_value.Statement.{statement}
 use Rattle.dense_rows.proofs.values.row_value.Tie as tie
 
-abbrev invariant_loop : tie.invariant-loop
+abbrev invariant_loop : tie.invariant-loop-j
 invariant_loop words at w from values value₀ j₀ value j = Summing words at w from values j value
 
-abbrev decreases_loop : tie.decreases-loop
+abbrev decreases_loop : tie.decreases-loop-j
 decreases_loop words at w from values value₀ j₀ value j = w - j
 
 pub row_value_spec : {M : Type 1} → statement M
@@ -23,8 +23,8 @@ row_value_spec =
     (λ c. search rules)  -- mul-word-value
     (λ c. search rules)  -- shared-slice-read-word-value
     (λ c. search rules)  -- mul-word-value-2
-    (λ c κs. summing_listed c.before.before.loop.invariant c.before.loop-test.true)  -- word-value-requires
+    (λ c κs. summing_listed c.loop-j.invariant c.loop-j-test.true)  -- word-value-requires
     (λ c. search rules)  -- add-j
     (λ c. search rules)  -- loop-less
-    (λ c. summing_turn c.before.before.before.loop.invariant c.before.before.loop-test.true c.word_value.ensures)  -- loop-again
+    (λ c. summing_turn c.loop-j.invariant c.loop-j-test.true c.word_value-value.ensures)  -- loop-again
     (λ c. search (rules, summing_end)))

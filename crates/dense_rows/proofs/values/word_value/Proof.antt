@@ -6,10 +6,10 @@ use Rattle.dense_rows.proofs.SetBits.{Valuing, valuing_begin, valuing_place, val
 use Rattle.dense_rows.proofs.values.word_value.Statement.{statement}
 use Rattle.dense_rows.proofs.values.word_value.Tie as tie
 
-abbrev invariant_loop : tie.invariant-loop
+abbrev invariant_loop : tie.invariant-loop-left
 invariant_loop word base values left₀ value₀ left value = Valuing word base values left value
 
-abbrev decreases_loop : tie.decreases-loop
+abbrev decreases_loop : tie.decreases-loop-left
 decreases_loop word base values left₀ value₀ left value = left
 
 pub word_value_spec : {M : Type 1} → statement M
@@ -19,10 +19,10 @@ word_value_spec =
     invariant_loop
     decreases_loop
     (λ c. search (rules, valuing_begin))  -- loop-holds
-    (λ c. let h = trailing_le 64 c.before.loop.left in search rules)  -- cast-value
-    (λ c. let h = valuing_place c.before.loop.invariant c.loop-test.true in search rules)  -- add-value
-    (λ c. let h = valuing_place c.before.loop.invariant c.loop-test.true in search rules)  -- mul-value
-    (λ c. let h = valuing_place c.before.before.loop.invariant c.before.loop-test.true in search rules)  -- shared-slice-read-value
+    (λ c. let h = trailing_le 64 c.loop-left.left in search rules)  -- cast-value
+    (λ c. let h = valuing_place c.loop-left.invariant c.loop-left-test.true in search rules)  -- add-value
+    (λ c. let h = valuing_place c.loop-left.invariant c.loop-left-test.true in search rules)  -- mul-value
+    (λ c. let h = valuing_place c.loop-left.invariant c.loop-left-test.true in search rules)  -- shared-slice-read-value
     (λ c. search rules)  -- sub-left
     (λ c. search (rules, valuing_less))  -- loop-less
     (λ c. search (rules, valuing_turn))  -- loop-again

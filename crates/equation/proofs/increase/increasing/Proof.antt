@@ -6,10 +6,10 @@ use Rattle.equation.proofs.Rise.{Passed, passed_none, passed_first, passed_next,
 use Rattle.equation.proofs.increase.increasing.Statement.{statement}
 use Rattle.equation.proofs.increase.increasing.Tie as tie
 
-abbrev invariant_loop : tie.invariant-loop
+abbrev invariant_loop : tie.invariant-loop-i
 invariant_loop s prev₀ i₀ prev i = Passed s prev i
 
-abbrev decreases_loop : tie.decreases-loop
+abbrev decreases_loop : tie.decreases-loop-i
 decreases_loop s prev₀ i₀ prev i = length s - i
 
 pub increasing_spec : {M : Type 1} → statement M

@@ -10,32 +10,32 @@ use Rattle.equation.proofs.Turn.{Merged, merged_begin, less_fits, more_fits, on_
 use Rattle.equation.proofs.merge.merge.Statement.{statement}
 use Rattle.equation.proofs.merge.merge.Tie as tie
 
-abbrev invariant_loop : tie.invariant-loop
+abbrev invariant_loop : tie.invariant-loop-i
 invariant_loop left right out₀ i₀ j₀ d₀ out i j d = Merged left right out₀ out 0 i j d
 
-abbrev decreases_loop : tie.decreases-loop
+abbrev decreases_loop : tie.decreases-loop-i
 decreases_loop left right out₀ i₀ j₀ d₀ out i j d = (length left - i) + (length right - j)
 
 -- there is room for the variable that is written
-low : (c : tie.Then2 invariant_loop decreases_loop) → c.before.before.before.before.before.loop.d < length c.before.before.before.before.before.loop.out
+low : (c : tie.Then-l-r invariant_loop decreases_loop) → c.loop-i.d < length c.loop-i.out
 low c =
-    let w = c.before.before.before.before.before.loop.invariant in
-    omega (arith, w.written, less_fits w (search rules) (omega (arith, ltb-true)) c.if2.true)
+    let w = c.loop-i.invariant in
+    omega (arith, w.written, less_fits w (search rules) (omega (arith, ltb-true)) c.if-l-r.true)
 
-low_2 : (c : tie.Then3 invariant_loop decreases_loop) → c.before.before.before.before.before.before.loop.d < length c.before.before.before.before.before.before.loop.out
+low_2 : (c : tie.Then-r-l invariant_loop decreases_loop) → c.loop-i.d < length c.loop-i.out
 low_2 c =
-    let w = c.before.before.before.before.before.before.loop.invariant in
-    omega (arith, w.written, more_fits w (search rules) (omega (arith, ltb-true)) c.if3.true)
+    let w = c.loop-i.invariant in
+    omega (arith, w.written, more_fits w (search rules) (omega (arith, ltb-true)) c.if-r-l.true)
 
-returns : tie.Need-returns invariant_loop decreases_loop
+returns : tie.Need-returns-else-j-right invariant_loop decreases_loop
 returns c =
-    let w = c.before.before.loop.invariant in
-    (right_done w (ltb-false _ _ c.if1.false), w.written.so_far)
+    let w = c.loop-i.invariant in
+    (right_done w (c.if-j-right.false), w.written.so_far)
 
-returns_2 : tie.Need-returns-2 invariant_loop decreases_loop
+returns_2 : tie.Need-returns-after-loop-i invariant_loop decreases_loop
 returns_2 c =
-    let w = c.before.loop.invariant in
-    (left_done w c.loop-test.false, w.written.so_far)
+    let w = c.loop-i.invariant in
+    (left_done w c.loop-i-test.false, w.written.so_far)
 
 pub merge_spec : {M : Type 1} → statement M
 merge_spec =
@@ -53,17 +53,17 @@ merge_spec =
     (λ c. search rules)  -- add-i
     (λ c. let h = low c in search rules)  -- add-d
     (λ c. search rules)  -- loop-less
-    (λ c. rw (zero-add _) at (on_less c.before.before.before.before.before.loop.invariant (search rules) (omega (arith, ltb-true)) c.if2.true))  -- loop-again
+    (λ c. rw (zero-add _) at (on_less c.loop-i.invariant (search rules) (omega (arith, ltb-true)) c.if-l-r.true))  -- loop-again
     (λ c. let h = low_2 c in search rules)  -- mul-out-2
     (λ c. let h = low_2 c in search rules)  -- slice-write-out-2
     (λ c. omega (arith, ltb-true))  -- add-j
     (λ c. let h = low_2 c in search rules)  -- add-d-2
     (λ c. omega (arith, ltb-true))  -- loop-less-2
-    (λ c. rw (zero-add _) at (on_more c.before.before.before.before.before.before.loop.invariant (search rules) (omega (arith, ltb-true)) c.if3.true))  -- loop-again-2
+    (λ c. rw (zero-add _) at (on_more c.loop-i.invariant (search rules) (omega (arith, ltb-true)) c.if-r-l.true))  -- loop-again-2
     (λ c. search rules)  -- add-i-2
     (λ c. omega (arith, ltb-true))  -- add-j-2
     (λ c. omega (arith, ltb-true))  -- loop-less-3
-    (λ c. on_both c.before.before.before.before.before.before.loop.invariant (search rules) (omega (arith, ltb-true)) (omega (arith, c.before.if2.false, c.if3.false)))  -- loop-again-3
+    (λ c. on_both c.loop-i.invariant (search rules) (omega (arith, ltb-true)) (omega (arith, c.if-l-r.false, c.if-r-l.false)))  -- loop-again-3
     (λ c. search rules)  -- same-length
     returns
     (λ c. search rules)  -- same-length-2

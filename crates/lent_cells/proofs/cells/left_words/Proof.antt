@@ -6,25 +6,25 @@ use borrow.Author.Rules.{rules}
 use Rattle.lent_cells.proofs.cells.left_words.Statement.{statement}
 use Rattle.lent_cells.proofs.cells.left_words.Tie as tie
 
-abbrev invariant_loop : tie.invariant-loop
+abbrev invariant_loop : tie.invariant-loop-i
 invariant_loop cells room i₀ i = Leaving room cells i
 
-abbrev decreases_loop : tie.decreases-loop
+abbrev decreases_loop : tie.decreases-loop-i
 decreases_loop cells room i₀ i = length cells - i
 
-loop_holds : tie.Need-loop-init invariant_loop decreases_loop
+loop_holds : tie.Need-loop-i-init invariant_loop decreases_loop
 loop_holds c = search (rules, leaving_begin)
 
-returns : tie.Need-returns invariant_loop decreases_loop
-returns c = leaving_stop c.before.before.before.before.loop.invariant c.before.before.before.loop-test.true (λ e. c.if1.true (e ∙ sym c.before.left_at.ensures))
+returns : tie.Need-returns-then-cells-i invariant_loop decreases_loop
+returns c = leaving_stop c.loop-i.invariant c.loop-i-test.true (λ e. c.if-cells-i.true (e ∙ sym c.left_at.ensures))
 
-loop_again : tie.Need-loop-preserved invariant_loop decreases_loop
+loop_again : tie.Need-loop-i-preserved invariant_loop decreases_loop
 loop_again c =
-    let same = c.if1.false ∙ c.before.left_at.ensures in
-    leaving_turn c.before.before.before.before.loop.invariant c.before.before.before.loop-test.true same
+    let same = c.if-cells-i.false ∙ c.left_at.ensures in
+    leaving_turn c.loop-i.invariant c.loop-i-test.true same
 
-returns_2 : tie.Need-returns-2 invariant_loop decreases_loop
-returns_2 c = leaving_end c.before.loop.invariant c.loop-test.false
+returns_2 : tie.Need-returns invariant_loop decreases_loop
+returns_2 c = leaving_end c.loop-i.invariant c.loop-i-test.false
 
 pub left_words_spec : {M : Type 1} → statement M
 left_words_spec =

@@ -5,10 +5,10 @@ use Rattle.lent_cells.proofs.Marking.{Marking, marking_begin, marking_turn, mark
 use Rattle.lent_cells.proofs.cells.mark_bytes.Statement.{statement}
 use Rattle.lent_cells.proofs.cells.mark_bytes.Tie as tie
 
-abbrev invariant_loop : tie.invariant-loop
+abbrev invariant_loop : tie.invariant-loop-i
 invariant_loop bytes₀ i₀ bytes i = Marking bytes₀ i bytes
 
-abbrev decreases_loop : tie.decreases-loop
+abbrev decreases_loop : tie.decreases-loop-i
 decreases_loop bytes₀ i₀ bytes i = length bytes₀ - i
 
 pub mark_bytes_spec : {M : Type 1} → statement M

@@ -5,10 +5,10 @@ use Rattle.lent_cells.proofs.Marking.{Marking, marking_begin, marking_turn, mark
 use Rattle.lent_cells.proofs.cells.mark_numbers.Statement.{statement}
 use Rattle.lent_cells.proofs.cells.mark_numbers.Tie as tie
 
-abbrev invariant_loop : tie.invariant-loop
+abbrev invariant_loop : tie.invariant-loop-i
 invariant_loop numbers₀ i₀ numbers i = Marking numbers₀ i numbers
 
-abbrev decreases_loop : tie.decreases-loop
+abbrev decreases_loop : tie.decreases-loop-i
 decreases_loop numbers₀ i₀ numbers i = length numbers₀ - i
 
 pub mark_numbers_spec : {M : Type 1} → statement M

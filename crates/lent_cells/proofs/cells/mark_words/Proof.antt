@@ -5,10 +5,10 @@ use Rattle.lent_cells.proofs.Marking.{Marking, marking_begin, marking_turn, mark
 use Rattle.lent_cells.proofs.cells.mark_words.Statement.{statement}
 use Rattle.lent_cells.proofs.cells.mark_words.Tie as tie
 
-abbrev invariant_loop : tie.invariant-loop
+abbrev invariant_loop : tie.invariant-loop-i
 invariant_loop words₀ i₀ words i = Marking words₀ i words
 
-abbrev decreases_loop : tie.decreases-loop
+abbrev decreases_loop : tie.decreases-loop-i
 decreases_loop words₀ i₀ words i = length words₀ - i
 
 pub mark_words_spec : {M : Type 1} → statement M

@@ -5,26 +5,26 @@ use borrow.Author.Rules.{rules}
 use Rattle.lent_cells.proofs.cells.same_words.Statement.{statement}
 use Rattle.lent_cells.proofs.cells.same_words.Tie as tie
 
-abbrev invariant_loop : tie.invariant-loop
+abbrev invariant_loop : tie.invariant-loop-i
 invariant_loop a b i₀ i = Matching a b i
 
-abbrev decreases_loop : tie.decreases-loop
+abbrev decreases_loop : tie.decreases-loop-i
 decreases_loop a b i₀ i = length a - i
 
-returns : tie.Need-returns invariant_loop decreases_loop
-returns c = matching_lengths _ _ c.if1.true
+returns : tie.Need-returns-then-a-b invariant_loop decreases_loop
+returns c = matching_lengths _ _ c.if-a-b.true
 
-loop_holds : tie.Need-loop-init invariant_loop decreases_loop
+loop_holds : tie.Need-loop-i-init invariant_loop decreases_loop
 loop_holds c = search (rules, matching_begin)
 
-returns_2 : tie.Need-returns-2 invariant_loop decreases_loop
-returns_2 c = matching_stop c.before.before.before.before.loop.invariant c.if2.true
+returns_2 : tie.Need-returns-then-a-i invariant_loop decreases_loop
+returns_2 c = matching_stop c.loop-i.invariant c.if-a-i.true
 
-loop_again : tie.Need-loop-preserved invariant_loop decreases_loop
+loop_again : tie.Need-loop-i-preserved invariant_loop decreases_loop
 loop_again c = search (rules, matching_turn)
 
-returns_3 : tie.Need-returns-3 invariant_loop decreases_loop
-returns_3 c = matching_end c.before.loop.invariant c.loop-test.false
+returns_3 : tie.Need-returns invariant_loop decreases_loop
+returns_3 c = matching_end c.loop-i.invariant c.loop-i-test.false
 
 pub same_words_spec : {M : Type 1} → statement M
 same_words_spec =

@@ -4,71 +4,71 @@ use Rattle.link_form.proofs.Header.{too_long, too_short, other_mark, other_versi
 use Rattle.link_form.proofs.scan.read_form.Statement.{statement}
 use Rattle.link_form.proofs.scan.read_form.Tie as tie
 
-returns : tie.Need-returns
+returns : tie.Need-returns-then-bytes-gt-MAX_BYTES
 returns c =
-    let b = c.before.before.args.bytes.now in
-    sym (malformed b (too_long b c.if1.true))
+    let b = c.args.bytes.now in
+    sym (malformed b (too_long b c.if-bytes-gt-MAX_BYTES.true))
 
-returns_2 : tie.Need-returns-2
+returns_2 : tie.Need-returns-then-bytes-lt-HEADER_BYTES
 returns_2 c =
-    let b = c.before.before.before.args.bytes.now in
-    sym (malformed b (too_short b c.if2.true))
+    let b = c.args.bytes.now in
+    sym (malformed b (too_short b c.if-bytes-lt-HEADER_BYTES.true))
 
-returns_3 : tie.Need-returns-3
+returns_3 : tie.Need-returns-then-read_number-ne-MARK
 returns_3 c =
-    let b = c.before.before.before.before.before.args.bytes.now in
-    sym (malformed b (other_mark b (λ e. c.if3.true (c.before.read_number.ensures.0 ∙ e))))
+    let b = c.args.bytes.now in
+    sym (malformed b (other_mark b (λ e. c.if-read_number-ne-MARK.true (c.read_number.ensures.0 ∙ e))))
 
-returns_4 : tie.Need-returns-4
+returns_4 : tie.Need-returns-then-read_number-ne1
 returns_4 c =
-    let b = c.before.before.before.before.before.before.before.args.bytes.now in
-    sym (malformed b (other_version b (λ e. c.if4.true (c.before.read-number2.ensures.0 ∙ e))))
+    let b = c.args.bytes.now in
+    sym (malformed b (other_version b (λ e. c.if-read_number-ne1.true (c.read_number-2.ensures.0 ∙ e))))
 
-returns_5 : tie.Need-returns-5
+returns_5 : tie.Need-returns-then-kind-lt-SPARSE
 returns_5 c =
-    let b = c.before.before.before.before.before.before.before.before.before.args.bytes.now in
-    sym (malformed b (low_kind b (rw c.before.read-number3.ensures.0 at c.if5.true)))
+    let b = c.args.bytes.now in
+    sym (malformed b (low_kind b (rw c.read_number-kind.ensures.0 at c.if-kind-lt-SPARSE.true)))
 
-returns_6 : tie.Need-returns-6
+returns_6 : tie.Need-returns-then-kind-gt-PEEL
 returns_6 c =
-    let b = c.before.before.before.before.before.before.before.before.before.before.args.bytes.now in
-    sym (malformed b (high_kind b (rw c.before.before.read-number3.ensures.0 at c.if6.true)))
+    let b = c.args.bytes.now in
+    sym (malformed b (high_kind b (rw c.read_number-kind.ensures.0 at c.if-kind-gt-PEEL.true)))
 
-returns_7 : tie.Need-returns-7
+returns_7 : tie.Need-returns-in_default
 returns_7 c =
-    let s = c.before.before in
-    let r₅ = s.before in
-    let r₄ = r₅.before in
-    let i₆ = r₄.before in
-    let i₅ = i₆.before in
-    let r₃ = i₅.before in
-    let i₄ = r₃.before in
-    let r₂ = i₄.before in
-    let i₃ = r₂.before in
-    let r₁ = i₃.before in
-    let i₂ = r₁.before in
-    let i₁ = i₂.before in
-    form_of_scan_lem i₁.before.before.args.bytes.now r₁.read_number.result r₂.read-number2.result r₃.read-number3.result r₄.read-number4.result r₅.read-number5.result _
-    r₁.read_number.ensures.0 r₂.read-number2.ensures.0 r₃.read-number3.ensures.0 r₄.read-number4.ensures.0 r₅.read-number5.ensures.0
-    i₁.if1.false i₂.if2.false i₃.if3.false i₄.if4.false i₅.if5.false i₆.if6.false (sym c.enum_told.given.1 ∙ s.scan-rows.ensures)
+    let s = c in
+    let r₅ = s in
+    let r₄ = r₅ in
+    let i₆ = r₄ in
+    let i₅ = i₆ in
+    let r₃ = i₅ in
+    let i₄ = r₃ in
+    let r₂ = i₄ in
+    let i₃ = r₂ in
+    let r₁ = i₃ in
+    let i₂ = r₁ in
+    let i₁ = i₂ in
+    form_of_scan_lem i₁.args.bytes.now r₁.read_number.result r₂.read_number-2.result r₃.read_number-kind.result r₄.read_number-n.result r₅.read_number-m.result _
+    r₁.read_number.ensures.0 r₂.read_number-2.ensures.0 r₃.read_number-kind.ensures.0 r₄.read_number-n.ensures.0 r₅.read_number-m.ensures.0
+    i₁.if-bytes-gt-MAX_BYTES.false i₂.if-bytes-lt-HEADER_BYTES.false i₃.if-read_number-ne-MARK.false i₄.if-read_number-ne1.false i₅.if-kind-lt-SPARSE.false i₆.if-kind-gt-PEEL.false (sym c.enum_told.given.1 ∙ s.scan_rows-scan.ensures)
 
-returns_8 : tie.Need-returns-8
+returns_8 : tie.Need-returns
 returns_8 c =
-    let s = c.before.before.before in
-    let r₅ = s.before in
-    let r₄ = r₅.before in
-    let i₆ = r₄.before in
-    let i₅ = i₆.before in
-    let r₃ = i₅.before in
-    let i₄ = r₃.before in
-    let r₂ = i₄.before in
-    let i₃ = r₂.before in
-    let r₁ = i₃.before in
-    let i₂ = r₁.before in
-    let i₁ = i₂.before in
-    form_of_scan_lem i₁.before.before.args.bytes.now r₁.read_number.result r₂.read-number2.result r₃.read-number3.result r₄.read-number4.result r₅.read-number5.result _
-    r₁.read_number.ensures.0 r₂.read-number2.ensures.0 r₃.read-number3.ensures.0 r₄.read-number4.ensures.0 r₅.read-number5.ensures.0
-    i₁.if1.false i₂.if2.false i₃.if3.false i₄.if4.false i₅.if5.false i₆.if6.false (sym c.before.scan.given.1 ∙ s.scan-rows.ensures)
+    let s = c in
+    let r₅ = s in
+    let r₄ = r₅ in
+    let i₆ = r₄ in
+    let i₅ = i₆ in
+    let r₃ = i₅ in
+    let i₄ = r₃ in
+    let r₂ = i₄ in
+    let i₃ = r₂ in
+    let r₁ = i₃ in
+    let i₂ = r₁ in
+    let i₁ = i₂ in
+    form_of_scan_lem i₁.args.bytes.now r₁.read_number.result r₂.read_number-2.result r₃.read_number-kind.result r₄.read_number-n.result r₅.read_number-m.result _
+    r₁.read_number.ensures.0 r₂.read_number-2.ensures.0 r₃.read_number-kind.ensures.0 r₄.read_number-n.ensures.0 r₅.read_number-m.ensures.0
+    i₁.if-bytes-gt-MAX_BYTES.false i₂.if-bytes-lt-HEADER_BYTES.false i₃.if-read_number-ne-MARK.false i₄.if-read_number-ne1.false i₅.if-kind-lt-SPARSE.false i₆.if-kind-gt-PEEL.false (sym c.scan.given.1 ∙ s.scan_rows-scan.ensures)
 
 pub read_form_spec : {M : Type 1} → statement M
 read_form_spec =

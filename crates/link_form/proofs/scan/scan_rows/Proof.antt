@@ -5,36 +5,36 @@ use Rattle.link_form.proofs.Scanning.{Scanning, scanning_begin, scanning_broken,
 use Rattle.link_form.proofs.scan.scan_rows.Statement.{statement}
 use Rattle.link_form.proofs.scan.scan_rows.Tie as tie
 
-abbrev invariant_loop : tie.invariant-loop
+abbrev invariant_loop : tie.invariant-loop-i
 invariant_loop bytes at kind w m p₀ t₀ i₀ p t i = Scanning bytes kind w m at p t i
 
-abbrev decreases_loop : tie.decreases-loop
+abbrev decreases_loop : tie.decreases-loop-i
 decreases_loop bytes at kind w m p₀ t₀ i₀ p t i = m - i
 
-loop_holds : tie.Need-loop-init invariant_loop decreases_loop
+loop_holds : tie.Need-loop-i-init invariant_loop decreases_loop
 loop_holds c = search (rules, scanning_begin)
 
-returns : tie.Need-returns invariant_loop decreases_loop
-returns c = scanning_broken c.before.before.before.before.loop.invariant c.before.before.before.loop-test.true (sym c.before.before.row_at.ensures ∙ c.enum_told.given.1)
+returns : tie.Need-returns-in_default invariant_loop decreases_loop
+returns c = scanning_broken c.loop-i.invariant c.loop-i-test.true (sym c.row_at-row.ensures ∙ c.enum_told.given.1)
 
-add_t : tie.Need-overflow-add-t invariant_loop decreases_loop
+add_t : tie.Need-overflow_add-t invariant_loop decreases_loop
 add_t c =
-    let n = scanning_turn c.before.before.before.before.before.loop.invariant c.before.before.before.before.loop-test.true
-    (sym c.before.before.before.row_at.ensures ∙ c.before.row.given.1) in
+    let n = scanning_turn c.loop-i.invariant c.loop-i-test.true
+    (sym c.row_at-row.ensures ∙ c.row.given.1) in
     let a = n.inside in
     let b = n.few in
     search rules
 
-loop_again : tie.Need-loop-preserved invariant_loop decreases_loop
+loop_again : tie.Need-loop-i-preserved invariant_loop decreases_loop
 loop_again c =
-    let n = scanning_turn c.before.before.before.before.before.loop.invariant c.before.before.before.before.loop-test.true
-    (sym c.before.before.before.row_at.ensures ∙ c.before.row.given.1) in
+    let n = scanning_turn c.loop-i.invariant c.loop-i-test.true
+    (sym c.row_at-row.ensures ∙ c.row.given.1) in
     n
 
-returns_2 : tie.Need-returns-2 invariant_loop decreases_loop
+returns_2 : tie.Need-returns-then-p-bytes invariant_loop decreases_loop
 returns_2 c = search (rules, scanning_left)
 
-returns_3 : tie.Need-returns-3 invariant_loop decreases_loop
+returns_3 : tie.Need-returns invariant_loop decreases_loop
 returns_3 c = search (rules, scanning_end)
 
 pub scan_rows_spec : {M : Type 1} → statement M

@@ -5,23 +5,23 @@ use native.Mathlib.Omega.{arith}
 use Rattle.link_lines.proofs.decimal.lay_digits.Statement.{statement}
 use Rattle.link_lines.proofs.decimal.lay_digits.Tie as tie
 
-abbrev invariant_loop : tie.invariant-loop
+abbrev invariant_loop : tie.invariant-loop-rest
 invariant_loop digits₀ x rest₀ k₀ digits rest k = Laying x digits rest k
 
-abbrev decreases_loop : tie.decreases-loop
+abbrev decreases_loop : tie.decreases-loop-rest
 decreases_loop digits₀ x rest₀ k₀ digits rest k = rest
 
-loop_holds : tie.Need-loop-init invariant_loop decreases_loop
+loop_holds : tie.Need-loop-rest-init invariant_loop decreases_loop
 loop_holds c = laying_begin c.args.x c.args.digits.now c.requires (omega (arith, c.ranges))
 
-sub_k : tie.Need-overflow-sub-k invariant_loop decreases_loop
+sub_k : tie.Need-overflow_sub-k invariant_loop decreases_loop
 sub_k c = search (rules, laying_room)
 
-loop_again : tie.Need-loop-preserved invariant_loop decreases_loop
+loop_again : tie.Need-loop-rest-preserved invariant_loop decreases_loop
 loop_again c = search (rules, laying_turn)
 
-same_length : tie.Need-same-length invariant_loop decreases_loop
-same_length c = let e = c.before.before.requires in let l = c.before.loop.invariant.long in simp length-set (omega arith)
+same_length : tie.Need-shape_of-digits invariant_loop decreases_loop
+same_length c = let e = c.requires in let l = c.loop-rest.invariant.long in simp length-set (omega arith)
 
 returns : tie.Need-returns invariant_loop decreases_loop
 returns c = search (rules, laying_end)

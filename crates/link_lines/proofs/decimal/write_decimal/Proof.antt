@@ -9,10 +9,10 @@ use Rattle.link_lines.proofs.decimal.write_decimal.Tie as tie
 
 returns : tie.Need-returns
 returns c =
-    let k = c.before.before.before.before.before.before.before in
-    let s = k.before.before.before in (
-      ap (λ (n : ℕ). s.args.at + n) (laid_length k.lay-digits.ensures),
-      c.before.before.copy-bytes.ensures ∙ ap (λ (l : List ℕ). put s.args.at l s.args.out.now) (laid_part k.lay-digits.ensures),
+    let k = c in
+    let s = k in (
+      ap (λ (n : ℕ). s.args.at + n) (laid_length k.lay_digits-k.ensures),
+      c.copy_bytes.ensures ∙ ap (λ (l : List ℕ). put s.args.at l s.args.out.now) (laid_part k.lay_digits-k.ensures),
     )
 
 pub write_decimal_spec : {M : Type 1} → statement M

@@ -5,18 +5,18 @@ use borrow.Author.Rules.{rules}
 use Rattle.link_lines.proofs.lines.write_answer_line.Statement.{statement}
 use Rattle.link_lines.proofs.lines.write_answer_line.Tie as tie
 
-write_ended_requires_2 : tie.Need-write-ended-requires-2
+write_ended_requires_2 : tie.Need-write_ended-requires
 write_ended_requires_2 c κs =
-    let a = c.before.before.before.before.before.before.args in
+    let a = c.args in
     let f = ended_short a.number space in
     search rules
 
 returns : tie.Need-returns
 returns c =
-    let s = c.before.before.before.before.before.before.before.before.before in
+    let s = c in
     let a = s.args in
-    let f = c.before.before.before.before.before.before.write-ended in
-    let g = c.before.before.write-ended2 in
+    let f = c.write_ended-p in
+    let g = c.write_ended in
     let l = ended_short a.number space in
     let t = ended_first a.number space a.at f.result a.out.now _ (omega (arith, s.requires)) f.ensures.0 f.ensures.1 in
     let u = ended_more a.place newline g.result _ t (omega (arith, s.requires, t)) g.ensures.0 g.ensures.1 in

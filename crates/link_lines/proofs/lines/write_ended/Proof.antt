@@ -5,23 +5,23 @@ use borrow.Author.Rules.{rules}
 use Rattle.link_lines.proofs.lines.write_ended.Statement.{statement}
 use Rattle.link_lines.proofs.lines.write_ended.Tie as tie
 
-slice_write_out : tie.Need-slice-write-out
+slice_write_out : tie.Need-bounds-out-p
 slice_write_out c =
-    let f = few_digits c.before.before.before.before.before.args.x in
+    let f = few_digits c.args.x in
     search rules
 
-add_result : tie.Need-overflow-add-result
+add_result : tie.Need-overflow_add-result
 add_result c =
-    let f = few_digits c.before.before.before.before.before.args.x in
+    let f = few_digits c.args.x in
     search rules
 
 returns : tie.Need-returns
 returns c =
-    let s = c.before.before.before.before.before in
+    let s = c in
     let a = s.args in
     let f = few_digits a.x in
-    let e = c.before.before.write-decimal.ensures in
-    ended_written a.x a.end a.at c.before.before.write-decimal.result a.out.now _ e.0 e.1 (omega (arith, s.requires))
+    let e = c.write_decimal-p.ensures in
+    ended_written a.x a.end a.at c.write_decimal-p.result a.out.now _ e.0 e.1 (omega (arith, s.requires))
 
 pub write_ended_spec : {M : Type 1} → statement M
 write_ended_spec =

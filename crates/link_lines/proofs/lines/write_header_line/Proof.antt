@@ -5,22 +5,22 @@ use borrow.Author.Rules.{rules}
 use Rattle.link_lines.proofs.lines.write_header_line.Statement.{statement}
 use Rattle.link_lines.proofs.lines.write_header_line.Tie as tie
 
-write_ended_requires_2 : tie.Need-write-ended-requires-2
+write_ended_requires_2 : tie.Need-write_ended-c-requires
 write_ended_requires_2 c κs =
-    let a = c.before.before.before.before.before.before.before.before.before.before.args in
+    let a = c.args in
     let f = ended_short a.version space in
     search rules
 
-write_ended_requires_3 : tie.Need-write-ended-requires-3
+write_ended_requires_3 : tie.Need-write_ended-d-requires
 write_ended_requires_3 c κs =
-    let a = c.before.before.before.before.before.before.before.before.before.before.before.before.before.before.args in
+    let a = c.args in
     let f = ended_short a.version space in
     let g = ended_short a.kind space in
     search rules
 
-write_ended_requires_4 : tie.Need-write-ended-requires-4
+write_ended_requires_4 : tie.Need-write_ended-requires
 write_ended_requires_4 c κs =
-    let a = c.before.before.before.before.before.before.before.before.before.before.before.before.before.before.before.before.before.before.args in
+    let a = c.args in
     let f = ended_short a.version space in
     let g = ended_short a.kind space in
     let h = ended_short a.n space in
@@ -28,13 +28,13 @@ write_ended_requires_4 c κs =
 
 returns : tie.Need-returns
 returns c =
-    let s = c.before.before.before.before.before.before.before.before.before.before.before.before.before.before.before.before.before.before.before.before.before in
+    let s = c in
     let a = s.args in
-    let e₀ = c.before.before.before.before.before.before.before.before.before.before.before.before.before.before.before.before.before.before.write-mark in
-    let e₁ = c.before.before.before.before.before.before.before.before.before.before.before.before.before.before.write-ended in
-    let e₂ = c.before.before.before.before.before.before.before.before.before.before.write-ended2 in
-    let e₃ = c.before.before.before.before.before.before.write-ended3 in
-    let e₄ = c.before.before.write-ended4 in
+    let e₀ = c.write_mark-a in
+    let e₁ = c.write_ended-b in
+    let e₂ = c.write_ended-c in
+    let e₃ = c.write_ended-d in
+    let e₄ = c.write_ended in
     let l₁ = ended_short a.version space in
     let l₂ = ended_short a.kind space in
     let l₃ = ended_short a.n space in

@@ -5,25 +5,25 @@ use Rattle.link_lines.proofs.Lining.{Listing, listing_begin, listing_room, listi
 use Rattle.link_lines.proofs.lines.write_values.Statement.{statement}
 use Rattle.link_lines.proofs.lines.write_values.Tie as tie
 
-abbrev invariant_loop : tie.invariant-loop
+abbrev invariant_loop : tie.invariant-loop-i
 invariant_loop out₀ at values p₀ i₀ out p i = Listing values out₀ at p i out
 
-abbrev decreases_loop : tie.decreases-loop
+abbrev decreases_loop : tie.decreases-loop-i
 decreases_loop out₀ at values p₀ i₀ out p i = length values - i
 
-loop_holds : tie.Need-loop-init invariant_loop decreases_loop
+loop_holds : tie.Need-loop-i-init invariant_loop decreases_loop
 loop_holds c = search (rules, listing_begin)
 
-write_ended_requires : tie.Need-write-ended-requires invariant_loop decreases_loop
-write_ended_requires c κs = listing_room c.before.before.before.loop.invariant c.before.before.loop-test.true
+write_ended_requires : tie.Need-write_ended-p-requires invariant_loop decreases_loop
+write_ended_requires c κs = listing_room c.loop-i.invariant c.loop-i-test.true
 
-loop_again : tie.Need-loop-preserved invariant_loop decreases_loop
+loop_again : tie.Need-loop-i-preserved invariant_loop decreases_loop
 loop_again c =
-    let w = c.before.before.write-ended in
-    listing_turn w.result _ c.before.before.before.before.before.before.loop.invariant c.before.before.before.before.before.loop-test.true w.ensures.0 w.ensures.1
+    let w = c.write_ended-p in
+    listing_turn w.result _ c.loop-i.invariant c.loop-i-test.true w.ensures.0 w.ensures.1
 
 returns : tie.Need-returns invariant_loop decreases_loop
-returns c = listing_end c.before.loop.invariant c.loop-test.false
+returns c = listing_end c.loop-i.invariant c.loop-i-test.false
 
 pub write_values_spec : {M : Type 1} → statement M
 write_values_spec =

@@ -5,11 +5,11 @@ use Rattle.link_lines.proofs.outcomes.write_refusal.Tie as tie
 
 returns : tie.Need-returns
 returns c =
-    let s = c.before.before.before.before.before.before.before in
-    let number = c.before.before.before.before.before.number in
-    let place = c.before.before.before.before.place in
-    let e = c.before.before.write-answer-line.ensures in
-    line_told s.args.answer number.result place.result s.args.at c.before.before.write-answer-line.result s.args.out.now _ number.ensures place.ensures e.0 e.1
+    let s = c in
+    let number = c.number-number in
+    let place = c.place-place in
+    let e = c.write_answer_line.ensures in
+    line_told s.args.answer number.result place.result s.args.at c.write_answer_line.result s.args.out.now _ number.ensures place.ensures e.0 e.1
 
 pub write_refusal_spec : {M : Type 1} → statement M
 write_refusal_spec =

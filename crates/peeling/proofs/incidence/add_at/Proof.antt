@@ -5,7 +5,7 @@ use Rattle.peeling.proofs.incidence.add_at.Statement.{statement}
 use Rattle.peeling.proofs.incidence.add_at.Tie as tie
 
 returns : tie.Need-returns
-returns c = (refl, rw c.before.before.raised.ensures)
+returns c = (refl, rw c.raised.ensures)
 
 pub add_at_spec : {M : Type 1} → statement M
 add_at_spec =

@@ -6,7 +6,7 @@ use Rattle.peeling.proofs.incidence.side_at.Statement.{statement}
 use Rattle.peeling.proofs.incidence.side_at.Tie as tie
 
 returns : tie.Need-returns
-returns c = and_mask (get_or c.before.before.args.degrees.now c.before.before.args.v.0 0) 2
+returns c = and_mask (get_or c.args.degrees.now c.args.v.0 0) 2
 
 pub side_at_spec : {M : Type 1} → statement M
 side_at_spec = tie.close (tie.spec (λ c. search rules) (λ c. search rules) returns)

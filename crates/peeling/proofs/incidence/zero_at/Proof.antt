@@ -7,7 +7,7 @@ use Rattle.peeling.proofs.incidence.zero_at.Statement.{statement}
 use Rattle.peeling.proofs.incidence.zero_at.Tie as tie
 
 returns : tie.Need-returns
-returns c = ap (set c.before.before.args.degrees.now c.before.before.args.v.0) (and_mask (get_or c.before.before.args.degrees.now c.before.before.args.v.0 0) 2)
+returns c = ap (set c.args.degrees.now c.args.v.0) (and_mask (get_or c.args.degrees.now c.args.v.0 0) 2)
 
 pub zero_at_spec : {M : Type 1} → statement M
 zero_at_spec =

@@ -7,30 +7,30 @@ use native.Mathlib.Omega.{arith}
 use Rattle.system.proofs.order.in_order.Statement.{statement}
 use Rattle.system.proofs.order.in_order.Tie as tie
 
-abbrev invariant_loop : tie.invariant-loop
+abbrev invariant_loop : tie.invariant-loop-i
 invariant_loop n vars low₀ i₀ low i = Ordered n vars low i
 
-abbrev decreases_loop : tie.decreases-loop
+abbrev decreases_loop : tie.decreases-loop-i
 decreases_loop n vars low₀ i₀ low i = length vars - i
 
-loop_holds : tie.Need-loop-init invariant_loop decreases_loop
+loop_holds : tie.Need-loop-i-init invariant_loop decreases_loop
 loop_holds c = search (rules, ordered_begin)
 
-cast_v : tie.Need-overflow-cast-v invariant_loop decreases_loop
-cast_v c = omega (arith, c.shared-slice-known.given c.before.before.loop.i)
+cast_v : tie.Need-overflow_cast-v invariant_loop decreases_loop
+cast_v c = omega (arith, c.shared_slice_known-1.given c.loop-i.i)
 
-returns : tie.Need-returns invariant_loop decreases_loop
+returns : tie.Need-returns-then-v-low invariant_loop decreases_loop
 returns c = search (rules, ordered_low)
 
-returns_2 : tie.Need-returns-2 invariant_loop decreases_loop
+returns_2 : tie.Need-returns-then-v-n invariant_loop decreases_loop
 returns_2 c =
-    let l = c.before.before.before in
-    ordered_high l.before.loop.invariant l.loop-test.true (search rules) (omega arith)
+    let l = c in
+    ordered_high l.loop-i.invariant l.loop-i-test.true (search rules) (omega arith)
 
-loop_again : tie.Need-loop-preserved invariant_loop decreases_loop
+loop_again : tie.Need-loop-i-preserved invariant_loop decreases_loop
 loop_again c = search (rules, ordered_turn)
 
-returns_3 : tie.Need-returns-3 invariant_loop decreases_loop
+returns_3 : tie.Need-returns invariant_loop decreases_loop
 returns_3 c = search (rules, ordered_end)
 
 pub in_order_spec : {M : Type 1} → statement M

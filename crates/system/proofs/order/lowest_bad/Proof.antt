@@ -8,30 +8,30 @@ use Rattle.system.proofs.Lowest.{Passed, passed_begin, passed_read, passed_turn,
 use Rattle.system.proofs.order.lowest_bad.Statement.{statement}
 use Rattle.system.proofs.order.lowest_bad.Tie as tie
 
-abbrev invariant_loop : tie.invariant-loop
+abbrev invariant_loop : tie.invariant-loop-i
 invariant_loop n m starts vars i₀ i = Passed n m starts vars i
 
-abbrev decreases_loop : tie.decreases-loop
+abbrev decreases_loop : tie.decreases-loop-i
 decreases_loop n m starts vars i₀ i = m - i
 
-cast_from : tie.Need-overflow-cast-from invariant_loop decreases_loop
-cast_from c = omega (arith, c.shared-slice-known3.given c.before.before.loop.i)
+cast_from : tie.Need-overflow_cast-from invariant_loop decreases_loop
+cast_from c = omega (arith, c.shared_slice_known-in-loop-i-1.given c.loop-i.i)
 
-cast_to : tie.Need-overflow-cast-to invariant_loop decreases_loop
-cast_to c = omega (arith, c.shared-slice-known4.given (c.before.before.before.loop.i + 1))
+cast_to : tie.Need-overflow_cast-to invariant_loop decreases_loop
+cast_to c = omega (arith, c.shared_slice_known-in-loop-i-2-1.given (c.loop-i.i + 1))
 
-returns : tie.Need-returns invariant_loop decreases_loop
+returns : tie.Need-returns-then-not-in_order invariant_loop decreases_loop
 returns c =
-    let l = c.before.before.before.before.before in
-    passed_stop l.before.loop.invariant l.loop-test.true (sym c.before.in_order.ensures ∙ not-true _ c.if1.true)
+    let l = c in
+    passed_stop l.loop-i.invariant l.loop-i-test.true (sym c.in_order.ensures ∙ c.if-not-in_order.true)
 
-loop_again : tie.Need-loop-preserved invariant_loop decreases_loop
+loop_again : tie.Need-loop-i-preserved invariant_loop decreases_loop
 loop_again c =
-    let l = c.before.before.before.before.before in
-    passed_turn l.before.loop.invariant l.loop-test.true (sym c.before.in_order.ensures ∙ not-false _ c.if1.false)
+    let l = c in
+    passed_turn l.loop-i.invariant l.loop-i-test.true (sym c.in_order.ensures ∙ c.if-not-in_order.false)
 
-returns_2 : tie.Need-returns-2 invariant_loop decreases_loop
-returns_2 c = passed_end c.before.loop.invariant c.loop-test.false
+returns_2 : tie.Need-returns invariant_loop decreases_loop
+returns_2 c = passed_end c.loop-i.invariant c.loop-i-test.false
 
 pub lowest_bad_spec : {M : Type 1} → statement M
 lowest_bad_spec =
@@ -40,17 +40,17 @@ lowest_bad_spec =
     invariant_loop
     decreases_loop
     (λ c. search (rules, passed_begin))  -- loop-holds
-    (λ c. let h = passed_read c.before.loop.invariant c.loop-test.true in search rules)  -- mul-from
-    (λ c. let h = passed_read c.before.before.loop.invariant c.before.loop-test.true in search rules)  -- shared-slice-read-from
+    (λ c. let h = passed_read c.loop-i.invariant c.loop-i-test.true in search rules)  -- mul-from
+    (λ c. let h = passed_read c.loop-i.invariant c.loop-i-test.true in search rules)  -- shared-slice-read-from
     cast_from
     (λ c. search rules)  -- add-to
-    (λ c. let h = passed_read c.before.before.loop.invariant c.before.loop-test.true in search rules)  -- mul-to
-    (λ c. (passed_read c.before.before.before.loop.invariant c.before.before.loop-test.true).0)  -- shared-slice-read-to
+    (λ c. let h = passed_read c.loop-i.invariant c.loop-i-test.true in search rules)  -- mul-to
+    (λ c. (passed_read c.loop-i.invariant c.loop-i-test.true).0)  -- shared-slice-read-to
     cast_to
-    (λ c. let h = passed_read c.before.before.before.loop.invariant c.before.before.loop-test.true in search rules)  -- mul-in-order
-    (λ c. let h = passed_read c.before.before.before.loop.invariant c.before.before.loop-test.true in search rules)  -- sub-in-order
-    (λ c. let h = passed_read c.before.before.before.loop.invariant c.before.before.loop-test.true in search rules)  -- part-in-order-start
-    (λ c. let h = passed_read c.before.before.before.loop.invariant c.before.before.loop-test.true in search rules)  -- part-in-order-end
+    (λ c. let h = passed_read c.loop-i.invariant c.loop-i-test.true in search rules)  -- mul-in-order
+    (λ c. let h = passed_read c.loop-i.invariant c.loop-i-test.true in search rules)  -- sub-in-order
+    (λ c. let h = passed_read c.loop-i.invariant c.loop-i-test.true in search rules)  -- part-in-order-start
+    (λ c. let h = passed_read c.loop-i.invariant c.loop-i-test.true in search rules)  -- part-in-order-end
     (λ c κs. search rules)  -- in-order-requires
     returns
     (λ c. search rules)  -- add-i

@@ -6,13 +6,13 @@ use Rattle.system.specs.System.{shape_kept}
 use Rattle.system.proofs.shape.shape_kept.Statement.{statement}
 use Rattle.system.proofs.shape.shape_kept.Tie as tie
 
-returns : tie.Need-returns
+returns : tie.Need-returns-then-not-starts_kept
 unfolding shape_kept
-returns c = simp (sym c.before.starts-kept.ensures ∙ not-true _ c.if1.true)
+returns c = simp (sym c.starts_kept.ensures ∙ c.if-not-starts_kept.true)
 
-returns_2 : tie.Need-returns-2
+returns_2 : tie.Need-returns
 unfolding shape_kept
-returns_2 c = simp (sym c.before.starts-kept.ensures ∙ not-false _ c.if1.false)
+returns_2 c = simp (sym c.starts_kept.ensures ∙ c.if-not-starts_kept.false)
 
 pub shape_kept_spec : {M : Type 1} → statement M
 shape_kept_spec = tie.close (tie.spec (λ c κs. search rules) returns returns_2)

@@ -5,19 +5,19 @@ use Rattle.system.specs.System.{starts_kept}
 use Rattle.system.proofs.shape.starts_kept.Statement.{statement}
 use Rattle.system.proofs.shape.starts_kept.Tie as tie
 
-returns : tie.Need-returns
+returns : tie.Need-returns-then-starts-m
 unfolding starts_kept
-returns c = simp (ne_eqb _ _ c.if1.true)
+returns c = simp (ne_eqb _ _ c.if-starts-m.true)
 
-returns_2 : tie.Need-returns-2
+returns_2 : tie.Need-returns-then-starts-ne0
 unfolding starts_kept
-returns_2 c = simp (eq-eqb _ _ c.before.before.if1.false, ne_eqb _ _ c.if2.true)
+returns_2 c = simp (eq-eqb _ _ c.if-starts-m.false, ne_eqb _ _ c.if-starts-ne0.true)
 
-returns_3 : tie.Need-returns-3
+returns_3 : tie.Need-returns
 unfolding starts_kept
 returns_3 c =
-    let d = c.before in
-    simp (c.climb.ensures, eq-eqb _ _ d.before.before.if1.false, eq-eqb _ _ d.if2.false)
+    let d = c in
+    simp (c.climb.ensures, eq-eqb _ _ d.if-starts-m.false, eq-eqb _ _ d.if-starts-ne0.false)
 
 pub starts_kept_spec : {M : Type 1} → statement M
 starts_kept_spec =

@@ -7,30 +7,30 @@ use Rattle.system_check.proofs.Meeting.{Meeting, meeting_begin, meeting_read, me
 use Rattle.system_check.proofs.evaluation.all_met.Statement.{statement}
 use Rattle.system_check.proofs.evaluation.all_met.Tie as tie
 
-abbrev invariant_loop : tie.invariant-loop
+abbrev invariant_loop : tie.invariant-loop-i
 invariant_loop m starts vars constants solution i₀ i = Meeting m starts vars constants solution i
 
-abbrev decreases_loop : tie.decreases-loop
+abbrev decreases_loop : tie.decreases-loop-i
 decreases_loop m starts vars constants solution i₀ i = m - i
 
-cast_from : tie.Need-overflow-cast-from invariant_loop decreases_loop
-cast_from c = omega (arith, c.shared-slice-known5.given c.before.before.loop.i)
+cast_from : tie.Need-overflow_cast-from invariant_loop decreases_loop
+cast_from c = omega (arith, c.shared_slice_known-in-loop-i-1.given c.loop-i.i)
 
-cast_to : tie.Need-overflow-cast-to invariant_loop decreases_loop
-cast_to c = omega (arith, c.shared-slice-known6.given (c.before.before.before.loop.i + 1))
+cast_to : tie.Need-overflow_cast-to invariant_loop decreases_loop
+cast_to c = omega (arith, c.shared_slice_known-in-loop-i-2-1.given (c.loop-i.i + 1))
 
-eval_vars_requires : tie.Need-eval-vars-requires invariant_loop decreases_loop
-eval_vars_requires c κs = meeting_low c.before.before.before.before.loop.invariant c.before.before.before.loop-test.true
+eval_vars_requires : tie.Need-eval_vars-requires invariant_loop decreases_loop
+eval_vars_requires c κs = meeting_low c.loop-i.invariant c.loop-i-test.true
 
-returns : tie.Need-returns invariant_loop decreases_loop
+returns : tie.Need-returns-then-eval_vars-constants invariant_loop decreases_loop
 returns c =
-    let l = c.before.before.before.before.before.before in
-    meeting_stop l.before.loop.invariant l.loop-test.true (λ e. c.if1.true (c.before.before.eval-vars.ensures ∙ e))
+    let l = c in
+    meeting_stop l.loop-i.invariant l.loop-i-test.true (λ e. c.if-eval_vars-constants.true (c.eval_vars.ensures ∙ e))
 
-loop_again : tie.Need-loop-preserved invariant_loop decreases_loop
+loop_again : tie.Need-loop-i-preserved invariant_loop decreases_loop
 loop_again c =
-    let l = c.before.before.before.before.before.before in
-    meeting_turn l.before.loop.invariant l.loop-test.true (sym c.before.before.eval-vars.ensures ∙ c.if1.false)
+    let l = c in
+    meeting_turn l.loop-i.invariant l.loop-i-test.true (sym c.eval_vars.ensures ∙ c.if-eval_vars-constants.false)
 
 pub all_met_spec : {M : Type 1} → statement M
 all_met_spec =
@@ -39,20 +39,20 @@ all_met_spec =
     invariant_loop
     decreases_loop
     (λ c. search (rules, meeting_begin))  -- loop-holds
-    (λ c. let h = meeting_read c.before.loop.invariant c.loop-test.true in search rules)  -- mul-from
-    (λ c. let h = meeting_read c.before.before.loop.invariant c.before.loop-test.true in search rules)  -- shared-slice-read-from
+    (λ c. let h = meeting_read c.loop-i.invariant c.loop-i-test.true in search rules)  -- mul-from
+    (λ c. let h = meeting_read c.loop-i.invariant c.loop-i-test.true in search rules)  -- shared-slice-read-from
     cast_from
     (λ c. search rules)  -- add-to
-    (λ c. let h = meeting_read c.before.before.loop.invariant c.before.loop-test.true in search rules)  -- mul-to
-    (λ c. (meeting_read c.before.before.before.loop.invariant c.before.before.loop-test.true).0)  -- shared-slice-read-to
+    (λ c. let h = meeting_read c.loop-i.invariant c.loop-i-test.true in search rules)  -- mul-to
+    (λ c. (meeting_read c.loop-i.invariant c.loop-i-test.true).0)  -- shared-slice-read-to
     cast_to
-    (λ c. let h = meeting_read c.before.before.before.loop.invariant c.before.before.loop-test.true in search rules)  -- mul-eval-vars
-    (λ c. let h = meeting_read c.before.before.before.loop.invariant c.before.before.loop-test.true in search rules)  -- sub-eval-vars
-    (λ c. let h = meeting_read c.before.before.before.loop.invariant c.before.before.loop-test.true in search rules)  -- part-eval-vars-start
-    (λ c. let h = meeting_read c.before.before.before.loop.invariant c.before.before.loop-test.true in search rules)  -- part-eval-vars-end
+    (λ c. let h = meeting_read c.loop-i.invariant c.loop-i-test.true in search rules)  -- mul-eval-vars
+    (λ c. let h = meeting_read c.loop-i.invariant c.loop-i-test.true in search rules)  -- sub-eval-vars
+    (λ c. let h = meeting_read c.loop-i.invariant c.loop-i-test.true in search rules)  -- part-eval-vars-start
+    (λ c. let h = meeting_read c.loop-i.invariant c.loop-i-test.true in search rules)  -- part-eval-vars-end
     eval_vars_requires
-    (λ c. let h = meeting_read c.before.before.before.before.before.loop.invariant c.before.before.before.before.loop-test.true in search rules)  -- mul-if1
-    (λ c. (meeting_read c.before.before.before.before.before.before.loop.invariant c.before.before.before.before.before.loop-test.true).3)  -- shared-slice-read-if1
+    (λ c. let h = meeting_read c.loop-i.invariant c.loop-i-test.true in search rules)  -- mul-if1
+    (λ c. (meeting_read c.loop-i.invariant c.loop-i-test.true).3)  -- shared-slice-read-if1
     returns
     (λ c. search rules)  -- add-i
     (λ c. search rules)  -- loop-less

@@ -7,25 +7,25 @@ use native.Mathlib.Omega.{arith}
 use Rattle.system_check.proofs.evaluation.eval_vars.Statement.{statement}
 use Rattle.system_check.proofs.evaluation.eval_vars.Tie as tie
 
-abbrev invariant_loop : tie.invariant-loop
+abbrev invariant_loop : tie.invariant-loop-i
 invariant_loop vars values sum₀ i₀ sum i = Evaluating vars values sum i
 
-abbrev decreases_loop : tie.decreases-loop
+abbrev decreases_loop : tie.decreases-loop-i
 decreases_loop vars values sum₀ i₀ sum i = length vars - i
 
-loop_holds : tie.Need-loop-init invariant_loop decreases_loop
+loop_holds : tie.Need-loop-i-init invariant_loop decreases_loop
 loop_holds c = search (rules, evaluating_begin)
 
-cast_v : tie.Need-overflow-cast-v invariant_loop decreases_loop
-cast_v c = omega (arith, c.shared-slice-known.given c.before.before.loop.i)
+cast_v : tie.Need-overflow_cast-v invariant_loop decreases_loop
+cast_v c = omega (arith, c.shared_slice_known-1.given c.loop-i.i)
 
-mul_sum : tie.Need-overflow-mul-sum invariant_loop decreases_loop
-mul_sum c = let h = evaluating_low c.before.before.loop.invariant c.before.loop-test.true in search rules
+mul_sum : tie.Need-offset_bounds-values-v invariant_loop decreases_loop
+mul_sum c = let h = evaluating_low c.loop-i.invariant c.loop-i-test.true in search rules
 
-shared_slice_read_sum : tie.Need-shared-slice-read-sum invariant_loop decreases_loop
-shared_slice_read_sum c = evaluating_low c.before.before.before.loop.invariant c.before.before.loop-test.true
+shared_slice_read_sum : tie.Need-bounds-values-v invariant_loop decreases_loop
+shared_slice_read_sum c = evaluating_low c.loop-i.invariant c.loop-i-test.true
 
-loop_again : tie.Need-loop-preserved invariant_loop decreases_loop
+loop_again : tie.Need-loop-i-preserved invariant_loop decreases_loop
 loop_again c = search (rules, evaluating_turn)
 
 returns : tie.Need-returns invariant_loop decreases_loop

@@ -7,17 +7,17 @@ use borrow.Author.Rules.{rules}
 use Rattle.peeling.proofs.graph.XorGraph.add.Statement.{statement}
 use Rattle.peeling.proofs.graph.XorGraph.add.Tie as tie
 
-returns : tie.Need-returns
-returns c = simp (c.refused.ensures, le-ltb _ _ c.before.if1.true) (refl, (refl, record { number = refl; place = refl }))
+returns : tie.Need-returns-then-edges-i
+returns c = simp (c.refused.ensures, le-ltb _ _ c.if-edges-i.true) (refl, (refl, record { number = refl; place = refl }))
 
-returns_2 : tie.Need-returns-2
-returns_2 c = simp (c.refused2.ensures, lt-ltb _ _ c.before.before.if1.false, le-ltb _ _ c.before.if2.true) (refl, (refl, record { number = refl; place = refl }))
+returns_2 : tie.Need-returns-then-degrees-i
+returns_2 c = simp (c.refused-then-degrees-i.ensures, lt-ltb _ _ c.if-edges-i.false, le-ltb _ _ c.if-degrees-i.true) (refl, (refl, record { number = refl; place = refl }))
 
-returns_3 : tie.Need-returns-3
-returns_3 c = simp (c.refused3.ensures, lt-ltb _ _ c.before.before.before.if1.false, lt-ltb _ _ c.before.before.if2.false, le-ltb _ _ c.before.if3.true) (refl, (refl, record { number = refl; place = refl }))
+returns_3 : tie.Need-returns-then-side-ge3
+returns_3 c = simp (c.refused-then-side-ge3.ensures, lt-ltb _ _ c.if-edges-i.false, lt-ltb _ _ c.if-degrees-i.false, le-ltb _ _ c.if-side-ge3.true) (refl, (refl, record { number = refl; place = refl }))
 
-returns_4 : tie.Need-returns-4
-returns_4 c = simp (lt-ltb _ _ c.before.before.before.before.before.before.before.before.before.before.if1.false, lt-ltb _ _ c.before.before.before.before.before.before.before.before.before.if2.false, lt-ltb _ _ c.before.before.before.before.before.before.before.before.if3.false) (ap (λ (over : Bool). record { answer = Solved; graph = record { overflow = c.before.before.before.before.before.before.before.before.before.before.before.before.before.before.args.self.overflow || over } }) c.before.before.before.before.before.add_at.ensures.0, (c.before.before.before.before.before.add_at.ensures.1, record { number = refl; place = refl }))
+returns_4 : tie.Need-returns
+returns_4 c = simp (lt-ltb _ _ c.if-edges-i.false, lt-ltb _ _ c.if-degrees-i.false, lt-ltb _ _ c.if-side-ge3.false) (ap (λ (over : Bool). record { answer = Solved; graph = record { overflow = c.args.self.overflow || over } }) c.add_at-over.ensures.0, (c.add_at-over.ensures.1, record { number = refl; place = refl }))
 
 pub add_spec : {M : Type 1} → statement M
 add_spec =

@@ -5,20 +5,20 @@ use borrow.Author.Rules.{rules}
 use Rattle.peeling.proofs.graph.XorGraph.remove.Statement.{statement}
 use Rattle.peeling.proofs.graph.XorGraph.remove.Tie as tie
 
-returns : tie.Need-returns
-returns c = simp (le-ltb _ _ c.if1.true) (refl, (refl, record { number = refl; place = refl }))
+returns : tie.Need-returns-then-edges-i
+returns c = simp (le-ltb _ _ c.if-edges-i.true) (refl, (refl, record { number = refl; place = refl }))
 
-returns_2 : tie.Need-returns-2
-returns_2 c = simp (lt-ltb _ _ c.before.if1.false, le-ltb _ _ c.if2.true) (refl, (refl, record { number = refl; place = refl }))
+returns_2 : tie.Need-returns-then-degrees-i
+returns_2 c = simp (lt-ltb _ _ c.if-edges-i.false, le-ltb _ _ c.if-degrees-i.true) (refl, (refl, record { number = refl; place = refl }))
 
-returns_3 : tie.Need-returns-3
-returns_3 c = simp (lt-ltb _ _ c.before.before.if1.false, lt-ltb _ _ c.before.if2.false, le-ltb _ _ c.if3.true) (refl, (refl, record { number = refl; place = refl }))
+returns_3 : tie.Need-returns-then-side-ge3
+returns_3 c = simp (lt-ltb _ _ c.if-edges-i.false, lt-ltb _ _ c.if-degrees-i.false, le-ltb _ _ c.if-side-ge3.true) (refl, (refl, record { number = refl; place = refl }))
 
-returns_4 : tie.Need-returns-4
-returns_4 c = simp (lt-ltb _ _ c.before.before.before.before.if1.false, lt-ltb _ _ c.before.before.before.if2.false, lt-ltb _ _ c.before.before.if3.false, lt-leb _ _ c.if4.true) (refl, (refl, record { number = refl; place = refl }))
+returns_4 : tie.Need-returns-then-degrees-i-lt-STEP
+returns_4 c = simp (lt-ltb _ _ c.if-edges-i.false, lt-ltb _ _ c.if-degrees-i.false, lt-ltb _ _ c.if-side-ge3.false, lt-leb _ _ c.if-degrees-i-lt-STEP.true) (refl, (refl, record { number = refl; place = refl }))
 
-returns_5 : tie.Need-returns-5
-returns_5 c = simp (lt-ltb _ _ c.before.before.before.before.before.before.before.before.before.before.before.if1.false, lt-ltb _ _ c.before.before.before.before.before.before.before.before.before.before.if2.false, lt-ltb _ _ c.before.before.before.before.before.before.before.before.before.if3.false, le-leb _ _ c.before.before.before.before.before.before.before.if4.false) (refl, (c.before.before.before.before.remove-at.ensures, record { number = refl; place = refl }))
+returns_5 : tie.Need-returns
+returns_5 c = simp (lt-ltb _ _ c.if-edges-i.false, lt-ltb _ _ c.if-degrees-i.false, lt-ltb _ _ c.if-side-ge3.false, le-leb _ _ c.if-degrees-i-lt-STEP.false) (refl, (c.remove_at.ensures, record { number = refl; place = refl }))
 
 pub remove_spec : {M : Type 1} → statement M
 remove_spec =
