@@ -10,29 +10,29 @@ use Rattle.system_check.proofs.check.Tie as tie
 
 returns : tie.Need-returns-then-solution-n
 unfolding check_call
-returns c = simp (sym c.rules.ensures ∙ c.enum_told.given.1, ne_eqb _ _ c.if-solution-n.true)
+returns c = simp (sym c.rules.ensures ∙ c.in-Kept.is, ne_eqb _ _ c.if-solution-n.true)
 
 all_met_requires : tie.Need-all_met-requires
 all_met_requires c κs =
     let a = c.args in
-    let k = kept_sound a.n a.m a.starts.now a.vars.now a.constants.now (sym c.rules.ensures ∙ c.enum_told.given.1) in
+    let k = kept_sound a.n a.m a.starts.now a.vars.now a.constants.now (sym c.rules.ensures ∙ c.in-Kept.is) in
     fits_solution a.solution.now c.if-solution-n.false k
 
 returns_2 : tie.Need-returns-in-Broken
 unfolding check_call
-returns_2 c = simp (sym c.rules.ensures ∙ c.answer.given.1)
+returns_2 c = simp (sym c.rules.ensures ∙ c.in-Broken.is)
 
 returns_3 : tie.Need-returns-then-all_met
 unfolding check_call
 returns_3 c =
     let d = c in
-    simp (sym d.rules.ensures ∙ d.enum_told.given.1, eq-eqb _ _ d.if-solution-n.false, sym c.all_met.ensures ∙ c.if-all_met.true)
+    simp (sym d.rules.ensures ∙ d.in-Kept.is, eq-eqb _ _ d.if-solution-n.false, sym c.all_met.ensures ∙ c.if-all_met.true)
 
 returns_4 : tie.Need-returns-else-all_met
 unfolding check_call
 returns_4 c =
     let d = c in
-    simp (sym d.rules.ensures ∙ d.enum_told.given.1, eq-eqb _ _ d.if-solution-n.false, sym c.all_met.ensures ∙ c.if-all_met.false)
+    simp (sym d.rules.ensures ∙ d.in-Kept.is, eq-eqb _ _ d.if-solution-n.false, sym c.all_met.ensures ∙ c.if-all_met.false)
 
 pub check_spec : {M : Type 1} → statement M
 check_spec =

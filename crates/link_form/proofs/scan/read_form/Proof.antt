@@ -50,7 +50,7 @@ returns_7 c =
     let i₁ = i₂ in
     form_of_scan_lem i₁.args.bytes.now r₁.read_number.result r₂.read_number-2.result r₃.read_number-kind.result r₄.read_number-n.result r₅.read_number-m.result _
     r₁.read_number.ensures.0 r₂.read_number-2.ensures.0 r₃.read_number-kind.ensures.0 r₄.read_number-n.ensures.0 r₅.read_number-m.ensures.0
-    i₁.if-bytes-gt-MAX_BYTES.false i₂.if-bytes-lt-HEADER_BYTES.false i₃.if-read_number-ne-MARK.false i₄.if-read_number-ne1.false i₅.if-kind-lt-SPARSE.false i₆.if-kind-gt-PEEL.false (sym c.enum_told.given.1 ∙ s.scan_rows-scan.ensures)
+    i₁.if-bytes-gt-MAX_BYTES.false i₂.if-bytes-lt-HEADER_BYTES.false i₃.if-read_number-ne-MARK.false i₄.if-read_number-ne1.false i₅.if-kind-lt-SPARSE.false i₆.if-kind-gt-PEEL.false (sym c.in_default.is ∙ s.scan_rows-scan.ensures)
 
 returns_8 : tie.Need-returns
 returns_8 c =
@@ -68,7 +68,7 @@ returns_8 c =
     let i₁ = i₂ in
     form_of_scan_lem i₁.args.bytes.now r₁.read_number.result r₂.read_number-2.result r₃.read_number-kind.result r₄.read_number-n.result r₅.read_number-m.result _
     r₁.read_number.ensures.0 r₂.read_number-2.ensures.0 r₃.read_number-kind.ensures.0 r₄.read_number-n.ensures.0 r₅.read_number-m.ensures.0
-    i₁.if-bytes-gt-MAX_BYTES.false i₂.if-bytes-lt-HEADER_BYTES.false i₃.if-read_number-ne-MARK.false i₄.if-read_number-ne1.false i₅.if-kind-lt-SPARSE.false i₆.if-kind-gt-PEEL.false (sym c.scan.given.1 ∙ s.scan_rows-scan.ensures)
+    i₁.if-bytes-gt-MAX_BYTES.false i₂.if-bytes-lt-HEADER_BYTES.false i₃.if-read_number-ne-MARK.false i₄.if-read_number-ne1.false i₅.if-kind-lt-SPARSE.false i₆.if-kind-gt-PEEL.false (sym c.in-Listed.is ∙ s.scan_rows-scan.ensures)
 
 pub read_form_spec : {M : Type 1} → statement M
 read_form_spec =

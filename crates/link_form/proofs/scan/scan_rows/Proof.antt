@@ -15,12 +15,12 @@ loop_holds : tie.Need-loop-i-init invariant_loop decreases_loop
 loop_holds c = search (rules, scanning_begin)
 
 returns : tie.Need-returns-in_default invariant_loop decreases_loop
-returns c = scanning_broken c.loop-i.invariant c.loop-i-test.true (sym c.row_at-row.ensures ∙ c.enum_told.given.1)
+returns c = scanning_broken c.loop-i.invariant c.loop-i-test.true (sym c.row_at-row.ensures ∙ c.in_default.is)
 
 add_t : tie.Need-overflow_add-t invariant_loop decreases_loop
 add_t c =
     let n = scanning_turn c.loop-i.invariant c.loop-i-test.true
-    (sym c.row_at-row.ensures ∙ c.row.given.1) in
+    (sym c.row_at-row.ensures ∙ c.in-Whole.is) in
     let a = n.inside in
     let b = n.few in
     search rules
@@ -28,7 +28,7 @@ add_t c =
 loop_again : tie.Need-loop-i-preserved invariant_loop decreases_loop
 loop_again c =
     let n = scanning_turn c.loop-i.invariant c.loop-i-test.true
-    (sym c.row_at-row.ensures ∙ c.row.given.1) in
+    (sym c.row_at-row.ensures ∙ c.in-Whole.is) in
     n
 
 returns_2 : tie.Need-returns-then-p-bytes invariant_loop decreases_loop
