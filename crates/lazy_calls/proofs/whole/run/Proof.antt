@@ -35,7 +35,7 @@ returns c =
     let s = c in
     let b = c in
     let l = b.build.new in let e = b.build.ensures in
-    let q = ends _ _ _ l.1.1.1.1.1.0 _ _ _ _ (room_zero _ _ _ s.args.numbers.now b.lazy_numbers-kn.ensures s.requires.2 e.1.0) (room_zero _ _ _ s.args.words.now b.lazy_words-kw.ensures s.requires.3 e.1.1.0)
+    let q = ends _ _ _ l.solution _ _ _ _ (room_zero _ _ _ s.args.numbers.now b.lazy_numbers-kn.ensures s.requires.2 e.1.0) (room_zero _ _ _ s.args.words.now b.lazy_words-kw.ensures s.requires.3 e.1.1.0)
     (lazy_answer s.args.n s.args.m s.args.starts.now s.args.vars.now s.args.constants.now) _ e.0 in
     (q.0, (q.1.0, (q.1.1.0, (q.1.1.1, e.1.1.1))))
 
