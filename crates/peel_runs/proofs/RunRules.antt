@@ -23,7 +23,7 @@ use Rattle.peel_parts.proofs.parts.build_graph.Symbol as build-graph-def
 use Rattle.peel_gates.specs.contracts.ends.crowded as crowded
 use Rattle.peel_gates.proofs.ends.crowded.Symbol as crowded-def
 use Rattle.peel_gates.specs.contracts.ends.ended as ended
-use Rattle.peel_gates.specs.contracts.rooms.clear_room as clear-Room
+use Rattle.peel_gates.specs.contracts.rooms.clear_room as clear_room_code
 use Rattle.peel_gates.proofs.rooms.clear_room.Symbol as clear-room-def
 use Rattle.peel_parts.specs.contracts.parts.peel_and_fill as peel-and-fill
 use Rattle.peel_parts.proofs.parts.peel_and_fill.Symbol as peel-and-fill-def
@@ -64,7 +64,7 @@ module _ {M : Type 1} {𝓤 : Ura M} (𝓛 : Logic 𝓤) (at_mem : Memory → SP
   to_run_edges κx qx x high n m νw δw w s νy δy y d νz δz z b = (((κx, (νw ∷ [], (νy ∷ [], (νz ∷ [], tt)))), (qx, (full_share, (full_share, (full_share, tt)))), tt, (x, (high, (n, (m, (at w δw s, (at y δy d, (at z δz b, tt))))))), (val x ∷ [], (vbool high ∷ [], (vint w64 n ∷ [], (vint w64 m ∷ [], (val w ∷ [], (val y ∷ [], (val z ∷ [], tt)))))))), tt)
 
   abbrev pub ClearRoomᶜ : Contract 𝓤
-  ClearRoomᶜ = triple_of 𝓛 clear-Room.signature (clear-Room.spec 𝓛 at_mem run)
+  ClearRoomᶜ = triple_of 𝓛 clear_room_code.signature (clear_room_code.spec 𝓛 at_mem run)
 
   abbrev pub to_clear_room : (high : Bool) (n : ℕ) (m : ℕ) (νy : ℕ) (δy : GName) (y : MutBor (List ℕ)) (d : List ℕ) (νz : ℕ) (δz : GName) (z : MutBor (List ℕ)) (b : List ℕ) → ClearRoomᶜ.Ghost
   to_clear_room high n m νy δy y d νz δz z b = (((νy ∷ [], (νz ∷ [], tt)), (full_share, (full_share, tt)), tt, (high, (n, (m, (at y δy d, (at z δz b, tt))))), (vbool high ∷ [], (vint w64 n ∷ [], (vint w64 m ∷ [], (val y ∷ [], (val z ∷ [], tt)))))), tt)
@@ -165,8 +165,8 @@ module _ {M : Type 1} {𝓤 : Ura M} {𝓛 : Logic 𝓤} {K : Type 0} {Γ : List
   calls_clear_room t fm at_mem run known high n n_fits m m-fits κy qy y d long-y room-y κz qz z b long-z room-z required os k =
       lends t tt u32 κy qy y d long-y (λ νy δy. move t (3 ∷ 4 ∷ []) $ lends t tt u8 κz qz z b long-z (λ νz δz. move t (3 ∷ 0 ∷ []) $ join t $ move t (3 ∷ 1 ∷ []) $ join t $ use2 𝓛 (raw ((ClearRoomᶜ 𝓛 at_mem run).pre (to_clear_room 𝓛 at_mem run high n m νy δy y d νz δz z b))) (goes νy δy νz δz) $ nothing t $ move t (1 ∷ []) $
       calls_at t fm (ClearRoomᶜ 𝓛 at_mem run) known (to_clear_room 𝓛 at_mem run high n m νy δy y d νz δz z b) (os νy δy νz δz) (λ v.
-      use1 𝓛 (later (some (λ (res : Unit {0}). ((‵ (flft (νy ∷ []) full_share) ⊛ ‵ (flft (νz ∷ []) full_share) ⊛ ‵ ftrue) ⊛ ‵ (unit.own_val res (v ∷ []))) ⊛ raw (ensured 𝓛 clear-Room.ended (clear-Room.clauses 𝓛 at_mem run) (νy ∷ [], (νz ∷ [], tt)) (high, (n, (m, (at y δy d, (at z δz b, tt))))) tt res)))) (id⊢ 𝓤 _) $ await t tt $ pick t (λ res. split t $ move t (1 ∷ []) $
-      use1 𝓛 (some (λ (zs : (Unit {0} × (Unit {0} × (Unit {0} × (List ℕ × (List ℕ × Unit {0})))))). ‵ (lasts clear-Room.ended (νy ∷ [], (νz ∷ [], tt)) (high, (n, (m, (at y δy d, (at z δz b, tt))))) zs) ⊛ raw (fact 𝓤 (Left high n m d b zs.1.1.1.0 zs.1.1.1.1.0)))) (id⊢ 𝓤 _) $ pick t (λ zs. split t $ move t (1 ∷ []) $ heard t (Left high n m d b zs.1.1.1.0 zs.1.1.1.1.0) (λ said.
+      use1 𝓛 (later (some (λ (res : Unit {0}). ((‵ (flft (νy ∷ []) full_share) ⊛ ‵ (flft (νz ∷ []) full_share) ⊛ ‵ ftrue) ⊛ ‵ (unit.own_val res (v ∷ []))) ⊛ raw (ensured 𝓛 clear_room_code.ended (clear_room_code.clauses 𝓛 at_mem run) (νy ∷ [], (νz ∷ [], tt)) (high, (n, (m, (at y δy d, (at z δz b, tt))))) tt res)))) (id⊢ 𝓤 _) $ await t tt $ pick t (λ res. split t $ move t (1 ∷ []) $
+      use1 𝓛 (some (λ (zs : (Unit {0} × (Unit {0} × (Unit {0} × (List ℕ × (List ℕ × Unit {0})))))). ‵ (lasts clear_room_code.ended (νy ∷ [], (νz ∷ [], tt)) (high, (n, (m, (at y δy d, (at z δz b, tt))))) zs) ⊛ raw (fact 𝓤 (Left high n m d b zs.1.1.1.0 zs.1.1.1.1.0)))) (id⊢ 𝓤 _) $ pick t (λ zs. split t $ move t (1 ∷ []) $ heard t (Left high n m d b zs.1.1.1.0 zs.1.1.1.1.0) (λ said.
       fsplit t $ let_go t $ fsplit t $ let_go t $ fsplit t $ let_go t $ fsplit t $ fsplit t $ move t (1 ∷ []) $ feq_l t (λ len-y. move t (1 ∷ []) $ fsplit t $ fsplit t $ move t (1 ∷ []) $ feq_l t (λ len-z. move t (1 ∷ []) $ let_go t $ move t (2 ∷ []) $ split t $ move t (1 ∷ []) $ facts t unit (Is unit) (shows 𝓛 unit) res (v ∷ []) (λ is.
       split t $ move t (1 ∷ []) $ split t $ move t (1 ∷ []) $ let_go t $ move t (4 ∷ []) $ let_go t $ move t (1 ∷ 5 ∷ 3 ∷ []) $ backs t tt u32 κy qy y d long-y room-y νy δy zs.1.1.1.0 len-y $ move t (2 ∷ 4 ∷ 3 ∷ []) $ backs t tt u8 κz qz z b long-z room-z νz δz zs.1.1.1.1.0 len-z $ move t (2 ∷ 3 ∷ 0 ∷ 1 ∷ []) $
       regoal t (λ (u : Val). lands C Λ E dst u rest p) (ap only is) refl $ k zs.1.1.1.0 zs.1.1.1.1.0 said len-y len-z)))))))))
