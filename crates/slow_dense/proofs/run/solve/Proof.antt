@@ -18,7 +18,7 @@ returns c =
     let s = c.before.before.before.before.before.before.before.before.before.before.before.before.before.before.before.before.before.before.before.before.before.before.before.before.before.before in
     let l = c.before.before.before.before.before.before.before.before.before.before.before.before.before.before.before.before.before.before.before.load.ensures in
     let e = c.before.before.before.before.before.before.before.before.before.before.before.before.before.before.clear-columns.ensures in
-    let r = c.before.before.before.before.clear-Room.ensures in
+    let r = c.before.before.before.before.clear_room.ensures in
     rw (slow_refused s.args.rows.now s.args.constants.now l e (sym c.before.before.before.before.before.before.before.before.constant-left.ensures ∙ c.before.before.before.before.before.before.before.if1.true)) (
       refl,
       (
