@@ -1,8 +1,10 @@
 // Answers counted by number, and those that the form rules out.
 ghost use Rattle.std.specs.Prelude.{◌<◌, ◌≤◌};
 
-use libc::STDOUT_FILENO;
 use std::num::wrapping_add_u64;
+
+// The number of standard output.
+const STDOUT: i32 = 1;
 
 // Where the form does not decide.
 pub const ANY: usize = 11;
@@ -26,12 +28,12 @@ fn count_line(name: &[u8], number: usize, times: u64) {
     if times == 0 {
         return;
     }
-    io::write_all(STDOUT_FILENO, name);
-    io::write_all(STDOUT_FILENO, b", number ");
-    io::print_decimal(STDOUT_FILENO, number as u64);
-    io::write_all(STDOUT_FILENO, b": ");
-    io::print_decimal(STDOUT_FILENO, times);
-    io::write_all(STDOUT_FILENO, b"\n");
+    io::write_all(STDOUT, name);
+    io::write_all(STDOUT, b", number ");
+    io::print_decimal(STDOUT, number as u64);
+    io::write_all(STDOUT, b": ");
+    io::print_decimal(STDOUT, times);
+    io::write_all(STDOUT, b"\n");
 }
 
 pub fn lines(tally: &[u64; 12], name: &[u8]) {
@@ -40,8 +42,8 @@ pub fn lines(tally: &[u64; 12], name: &[u8]) {
         count_line(name, k, tally[k]);
         k += 1;
     }
-    io::write_all(STDOUT_FILENO, name);
-    io::write_all(STDOUT_FILENO, b", against the form: ");
-    io::print_decimal(STDOUT_FILENO, tally[11]);
-    io::write_all(STDOUT_FILENO, b"\n");
+    io::write_all(STDOUT, name);
+    io::write_all(STDOUT, b", against the form: ");
+    io::print_decimal(STDOUT, tally[11]);
+    io::write_all(STDOUT, b"\n");
 }

@@ -9,8 +9,7 @@ ghost use Rattle.answers.specs.Told.{Tells};
 use crate::tell;
 
 // `lazy_calls::lazy_gaussian_elimination`; how many variables cancelled is written through `cancelled`.
-#[unsafe(no_mangle)]
-pub extern "C" fn orohkaril_lazy(
+pub fn orohkaril_lazy(
     n: usize,
     m: usize,
     starts: &[u32],

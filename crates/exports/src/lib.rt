@@ -1,4 +1,4 @@
-// The public calls under plain names, for programs in C or Rust: a slice is a pointer and a length, a second result is written through.
+// The public calls under plain names, without structs: a second result is written through. `exports_c` hands them to C.
 #![tactic(auto)]
 
 pub mod lazy_elimination;
@@ -29,8 +29,7 @@ fn tell(answer: Answer, place: &mut usize) -> u32
 }
 
 // `equation::sum`; the sum's length and constant go through `len` and `constant`, how many variables both lists had through `cancelled`.
-#[unsafe(no_mangle)]
-pub extern "C" fn orohkaril_sum(
+pub fn orohkaril_sum(
     left: &[u32],
     right: &[u32],
     left_c: u64,
@@ -52,8 +51,7 @@ pub extern "C" fn orohkaril_sum(
 }
 
 // `system_check::check`: a refusal's number, 0 for yes, 6 for no.
-#[unsafe(no_mangle)]
-pub extern "C" fn orohkaril_check(
+pub fn orohkaril_check(
     n: usize,
     m: usize,
     starts: &[u32],
@@ -73,8 +71,7 @@ pub extern "C" fn orohkaril_check(
 }
 
 // `sparse::gaussian_elimination`; how many variables cancelled is written through `cancelled`.
-#[unsafe(no_mangle)]
-pub extern "C" fn orohkaril_sparse(
+pub fn orohkaril_sparse(
     n: usize,
     m: usize,
     starts: &[u32],
@@ -98,8 +95,7 @@ pub extern "C" fn orohkaril_sparse(
 }
 
 // `dense::dense_gaussian_elimination`.
-#[unsafe(no_mangle)]
-pub extern "C" fn orohkaril_dense(
+pub fn orohkaril_dense(
     n: usize,
     m: usize,
     w: usize,

@@ -5,8 +5,7 @@ ghost use Rattle.answers.specs.Told.{Tells};
 use crate::tell;
 
 // `slow_dense::slow_gaussian_elimination`.
-#[unsafe(no_mangle)]
-pub extern "C" fn orohkaril_slow(
+pub fn orohkaril_slow(
     n: usize,
     m: usize,
     w: usize,

@@ -2,8 +2,10 @@
 ghost use Rattle.std.specs.Prelude.{◌<◌};
 
 use bench_checks::tally::{COMPARED, DIFFERENT};
-use libc::STDOUT_FILENO;
 use std::num::wrapping_add_u64;
+
+// The number of standard output.
+const STDOUT: i32 = 1;
 
 // Systems drawn.
 pub const DRAWN: usize = 0;
@@ -26,9 +28,9 @@ pub fn count_if(seen: &mut [u64; 5], k: usize, yes: bool)
 }
 
 fn line(name: &[u8], times: u64) {
-    io::write_all(STDOUT_FILENO, name);
-    io::print_decimal(STDOUT_FILENO, times);
-    io::write_all(STDOUT_FILENO, b"\n");
+    io::write_all(STDOUT, name);
+    io::print_decimal(STDOUT, times);
+    io::write_all(STDOUT, b"\n");
 }
 
 fn tally_lines(tally: &[u64; 90]) {

@@ -1,5 +1,4 @@
-// The peelers and lookup under plain names, for C or Rust: a slice is a pointer and a length, a second result is written through.
-// A lent edge is a C struct of 24 bytes: 32-bit vertices at 0, 4 and 8, a 64-bit value at 16. The language promises it of `#[repr(C)]`.
+// The peelers and lookup under plain names: a second result is written through. `peel_exports_c` hands them to C.
 #![tactic(auto)]
 
 ghost use Rattle.std.specs.Prelude.{◌≡◌};
@@ -41,8 +40,7 @@ fn tell_peeling(
 }
 
 // `peelers::calls::peel_by_sig_vals_high_mem`; its report goes through `peeled`, `total` and `unpeeled`.
-#[unsafe(no_mangle)]
-pub extern "C" fn orohkaril_peel_high(
+pub fn orohkaril_peel_high(
     n: usize,
     edges: &[Edge],
     solution: &mut [u64],
@@ -60,8 +58,7 @@ pub extern "C" fn orohkaril_peel_high(
 }
 
 // `peelers::calls::peel_by_sig_vals_low_mem`; its report goes through `peeled`, `total` and `unpeeled`.
-#[unsafe(no_mangle)]
-pub extern "C" fn orohkaril_peel_low(
+pub fn orohkaril_peel_low(
     n: usize,
     edges: &[Edge],
     solution: &mut [u64],
@@ -79,8 +76,7 @@ pub extern "C" fn orohkaril_peel_low(
 }
 
 // `lookups::reading::lookup`; bib and place are written through.
-#[unsafe(no_mangle)]
-pub extern "C" fn orohkaril_lookup(
+pub fn orohkaril_lookup(
     table: &[u64],
     a: u32,
     b: u32,

@@ -1,7 +1,6 @@
 // A case by its kind.
 ghost use Rattle.std.specs.Prelude.{◌<◌, ◌≤◌};
 
-use libc::STDIN_FILENO;
 use replay_cases::said::Verdict;
 use replay_graphs::graphs::graph_case;
 use replay_graphs::pushes::stack_case;
@@ -10,6 +9,9 @@ use replay_solvers::checks::check_case;
 use replay_solvers::denses::dense_case;
 use replay_solvers::sums::sum_case;
 use replay_solvers::systems::system_case;
+
+// The number of standard input.
+pub const STDIN: i32 = 0;
 
 // The kinds, in the order in which they are told; any other byte is one more.
 pub const KINDS: usize = 10;
@@ -48,7 +50,7 @@ fn replay_case(kind: usize, bytes: &[u8]) -> Verdict {
 
 // Reads the lists of a case into `body`, and replays it.
 pub fn replay_read(kind: usize, body: &mut [u8]) -> Verdict {
-    let got = io::read_full(STDIN_FILENO, body);
+    let got = io::read_full(STDIN, body);
     if got < body.len() {
         return Verdict::Different;
     }

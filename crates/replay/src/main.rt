@@ -1,16 +1,16 @@
 // Replays the cases on standard input, and says how many were answered as the Rust answered them.
 #![tactic(auto)]
 
-use libc::STDIN_FILENO;
-
 mod cases;
 mod counts;
 mod telling;
 
+use cases::STDIN;
+
 // One more case; says whether there was one.
 fn replay_next(counts: &mut [u64]) -> bool {
     let mut head = [0u8; 3];
-    let got = io::read_full(STDIN_FILENO, &mut head);
+    let got = io::read_full(STDIN, &mut head);
     if got == 0 {
         return false;
     }

@@ -2,14 +2,16 @@
 ghost use Rattle.std.specs.Prelude.{◌≤◌};
 
 use crate::counts::{DEPARTED, DIFFERENT, REFUSED, SAME, of_all, of_kind};
-use libc::STDOUT_FILENO;
+
+// The number of standard output.
+const STDOUT: i32 = 1;
 
 fn tell(text: &[u8]) {
-    io::write_all(STDOUT_FILENO, text);
+    io::write_all(STDOUT, text);
 }
 
 fn tell_number(x: u64) {
-    io::print_decimal(STDOUT_FILENO, x);
+    io::print_decimal(STDOUT, x);
 }
 
 fn tell_line(name: &[u8], same: u64, refused: u64, departed: u64, different: u64) {

@@ -2,14 +2,16 @@
 ghost use Rattle.std.specs.Prelude.{◌+◌, ◌≤◌, ◌<◌};
 
 use bench_checks::tally::{COMPARED, DIFFERENT};
-use libc::STDOUT_FILENO;
+
+// The number of standard output.
+const STDOUT: i32 = 1;
 
 pub fn text(bytes: &[u8]) {
-    io::write_all(STDOUT_FILENO, bytes);
+    io::write_all(STDOUT, bytes);
 }
 
 pub fn number(x: u64) {
-    io::print_decimal(STDOUT_FILENO, x);
+    io::print_decimal(STDOUT, x);
 }
 
 // The line `name number: times`, where there is something to tell.
