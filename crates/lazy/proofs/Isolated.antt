@@ -268,10 +268,10 @@ count_ours P v pv (q ∷ qs) = go (any_ours P q.vars) refl (count_ours P v pv qs
     go true e ih = ap (λ k. one (lists v q.vars) + k) ih
     go false e ih = rw (not_true→false (lists v q.vars) (λ l. true≢false (sym (any_listed P v q.vars l pv) ∙ e))) (ih ∙ (let z : listing_count v qs ≡ 0 + listing_count v qs = omega arith in z))
 
-mem_ours : (P : ℕ → Bool) (sys : List Equation) (r : Equation) → any_ours P r.vars ≡ true → Memᴰ r sys → Memᴰ r (our_part P sys)
+mem_ours : (P : ℕ → Bool) (r : Equation) (sys : List Equation) → any_ours P r.vars ≡ true → Memᴰ r sys → Memᴰ r (our_part P sys)
 unfolding our_part
-mem_ours P sys r h (Memᴰ.head {x = q} {xs = qs} e) = rw (sym (ap (λ (z : Equation). any_ours P z.vars) e) ∙ h) (Memᴰ.head e)
-mem_ours P sys r h (Memᴰ.tail {x = q} {xs = qs} k) = go (any_ours P q.vars) (mem_ours P qs r h k)
+mem_ours P r sys h (Memᴰ.head {x = q} {xs = qs} e) = rw (sym (ap (λ (z : Equation). any_ours P z.vars) e) ∙ h) (Memᴰ.head e)
+mem_ours P r sys h (Memᴰ.tail {x = q} {xs = qs} k) = go (any_ours P q.vars) (mem_ours P r qs h k)
   where
     go : (b : Bool) → Memᴰ r (our_part P qs) → Memᴰ r (cond b (q ∷ our_part P qs) (our_part P qs))
     go true ih = Memᴰ.tail ih
@@ -295,14 +295,14 @@ row_mem [] e h = absurd (omega arith)
 row_mem (q ∷ qs) zero h = Memᴰ.head refl
 row_mem (q ∷ qs) (suc e) h = Memᴰ.tail (row_mem qs e (omega arith))
 
-mem_row : (sys : List Equation) (r : Equation) → Memᴰ r sys → (f : ℕ) × (row_of sys f ≡ r)
-mem_row sys r (Memᴰ.head e) = (0, sym e)
-mem_row sys r (Memᴰ.tail {xs = qs} k) = let f = mem_row qs r k in (suc f.0, f.1)
+mem_row : (r : Equation) (sys : List Equation) → Memᴰ r sys → (f : ℕ) × (row_of sys f ≡ r)
+mem_row r sys (Memᴰ.head e) = (0, sym e)
+mem_row r sys (Memᴰ.tail {xs = qs} k) = let f = mem_row r qs k in (suc f.0, f.1)
 
 half : (P : ℕ → Bool) (a b : List Equation) → our_part P a ≡ our_part P b → (v e : ℕ) → lists_at a v e ≡ true → P v ≡ true → (f : ℕ) × (row_of b f ≡ row_of a e)
 half P a b h v e l pv =
-    mem_row b (row_of a e) (ours_mem P b (row_of a e) (subst (Memᴰ (row_of a e)) h
-    (mem_ours P a (row_of a e) (any_listed P v (row_of a e).vars l pv) (row_mem a e (lists_at_below a v e l)))))
+    mem_row (row_of a e) b (ours_mem P b (row_of a e) (subst (Memᴰ (row_of a e)) h
+    (mem_ours P (row_of a e) a (any_listed P v (row_of a e).vars l pv) (row_mem a e (lists_at_below a v e l)))))
 
 pub shares : (P : ℕ → Bool) (a b : List Equation) → our_part P a ≡ our_part P b → Shares P a b
 shares P a b h =

@@ -1,5 +1,5 @@
 -- Where each equation is, through a pop.
-use mathlib.Core.Path.{◌≡◌, refl, sym, ap, ◌∙◌}
+use mathlib.Core.Path.{◌≡◌, refl, sym, ap, subst, ◌∙◌}
 use mathlib.Core.Logic.{◌≢◌, ◌⊎◌, inl, inr}
 use mathlib.Core.List.Memᴰ
 use mathlib.Core.List.{List, [], ◌∷◌, ◌++◌, Memᴰ}
@@ -43,7 +43,7 @@ pushed_new (e ∷ es) priority equations f d h p =
         → lists f (pushed es (set priority e (pred (get_or priority e 0))) (cond (eqb (get_or priority e 0) 2) (e ∷ equations) equations)) ≡ true
     go (eq r t) ih =
         pushed_stays es (set priority e (pred (get_or priority e 0))) (cond (eqb (get_or priority e 0) 2) (e ∷ equations) equations) f
-        (rw (sym (ap (λ x. get_or priority x 0) r) ∙ p) (rw r (head_listed e equations)))
+        (rw (sym (ap (λ x. get_or priority x 0) r) ∙ p) (subst (λ x. lists f (x ∷ equations) ≡ true) r (head_listed f equations)))
     go (ne r t) ih = ih (rw t at h) (get_or-set_other priority e f (pred (get_or priority e 0)) 0 r ∙ p)
 
 module _ (rows dense : List Equation) (solved : List Solved) (es priority equations : List ℕ) (d : Distinct es) where

@@ -1,2 +1,1 @@
-pub mod CallRules
 pub mod CallLaws

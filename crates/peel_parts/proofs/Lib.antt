@@ -1,2 +1,1 @@
-pub mod PartRules
 pub mod PartLaws

@@ -1,3 +1,2 @@
-pub mod RunRules
 pub mod RunLaws
 pub mod OneResult

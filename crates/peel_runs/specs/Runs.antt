@@ -2,7 +2,7 @@
 use Rattle.std.specs.Prelude.{◌≡◌, List, [], Bool, ℕ, length}
 use Rattle.answers.specs.Numbers.{number_of, place_of}
 use Rattle.peeling.specs.declared.numbers.Edge.{Edge}
-use Rattle.peel_rules.specs.Peel.{answer, crowded_vertex}
+use Rattle.peel_rules.specs.Peel.{crowded_vertex}
 use Rattle.peel_rules.specs.Machine.{build, empty}
 use Rattle.peel_rules.specs.Calls.{PeelCall, admitted}
 use Rattle.peel_gates.specs.declared.ends.Peeling.{Peeling}

@@ -1,3 +1,2 @@
-pub mod CallRules
 pub mod TableLaws
 pub mod PeelLaws

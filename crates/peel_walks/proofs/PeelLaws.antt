@@ -13,18 +13,19 @@ use lib.Dec.{eqb, ltb, leb}
 use borrow.Author.Tests.{leb-true, leb-false, ltb-true, ltb-false, eqb-true, eqb-false, ne_eqb}
 use Rattle.gf2.specs.Equation.{Each}
 use Rattle.peeling.specs.declared.numbers.Edge.{Edge}
-use Rattle.peeling.specs.Graph.{Graph, remove, clear}
+use Rattle.peeling.specs.Graph.{Graph, degree_of, remove, clear}
 use Rattle.peel_rules.specs.Edges.{Valid, edge_at, without, degree, Side, side0, side1, side2, side_of, pivot, first, second}
 use Rattle.peel_rules.specs.Peel.{Peeled, State, push, popped, pop, step, run, ones, start, peel}
 use Rattle.peel_rules.specs.Machine.{no_edge, side_from, side_no, first_side, side_at, Machine, graph_after, stack_after, mstart}
 use Rattle.peel_rules.proofs.PeelBasic.{pivot_of_lem, at_touches, at_none, all_at, step-inv, run-inv}
 use Rattle.peel_rules.proofs.PeelSolved.{Inv, Good, inv_skip, inv_takes, start_inv}
-use Rattle.peel_rules.proofs.PeelEmpty.{first<, second<, weight, step_falls, run_idle, peel_empties}
+use Rattle.peel_rules.proofs.PeelEmpty.{heavy, sum_cong, first<, second<, weight, step_falls, run_idle, peel_empties}
 use Rattle.peel_rules.proofs.PeelCore.{without_length}
-use Rattle.peel_rules.proofs.PeelXor.{Numbered, edges_n, first_n, without_n, edges_without, first_edge}
-use Rattle.peel_rules.proofs.PeelRefines.{Rel, Sim, TakeFacts, pivot_of, Kept, side_small, xor_v, busy, side_v, edge_v, lower_eq, rel_after, take_facts, idle_degree}
+use Rattle.peel_rules.proofs.PeelXor.{Numbered, edges_n, first_n, without_n, edges_without, first_edge, xor_below}
+use Rattle.peel_rules.proofs.PeelRefines.{Rel, Sim, TakeFacts, pivot_of, is_pivot, kept_pivot, Kept, side_small, side_w, xor_v, busy, side_v, edge_v, lower_eq, rel_after, take_facts, idle_degree}
 use Rattle.peel_rules.proofs.PeelAnswers.{sim_start}
 use Rattle.peel_rules.proofs.PeelRoom.{both_fit}
+use Rattle.peel_rules.proofs.PeelTurns.{work}
 use Rattle.peel_turns.specs.declared.visiting.Heads.{Heads}
 use Rattle.peel_steps.specs.Pictures.{graph_in, rising, falling, stack_in, kept_numbers, kept_bytes, number_at, peeled_in}
 use Rattle.peel_gates.specs.Rooms.{numbers_room, bytes_room}
@@ -84,6 +85,15 @@ skipping T n ns v st ps g j r h = pick (edge_at v (edges_n ns)) refl
         let he : edge_at v (edges_n ns) ≡ some a.0.edge = rw a.2 q in
         let z : get_or g.degrees v 0 / 4 ≡ 0 = omega (arith, h) in
         absurd (eqb-false (get_or g.degrees v 0 / 4) 0 (busy T n ns v st ps g a.0 a.1 he j r) z)
+
+-- ---- the degrees in the bytes are those of the edges that are left
+
+degrees_in : (T : List Edge) (n : ℕ) (ns : List Numbered) (ps : List Peeled) (g : Graph) → Rel T n ns ps g → (w : ℕ) → w < n → degree_of g w ≡ degree w (edges_n ns)
+degrees_in T n ns ps g r w h = go (is_pivot w ps) refl
+  where
+    go : (b : Bool) → is_pivot w ps ≡ b → degree_of g w ≡ degree w (edges_n ns)
+    go true q = let k = kept_pivot T g (edges_n ns) w ps r.kept q in omega (arith, k.0, k.1)
+    go false q = omega (arith, (r.cells w h q).byte, xor_below (side_w w) 2 w ns (λ p. side_small (side_of w p.edge)) (omega arith))
 
 -- ---- what the run keeps
 
@@ -366,6 +376,14 @@ module _ {high : Bool} {n : ℕ} {T : List Edge} {numbers₀ bytes₀ : List ℕ
   abbrev pub to_do : {numbers bytes : List ℕ} {h : Heads} → Loop high n T numbers₀ bytes₀ numbers bytes h → ℕ
   to_do l = weight n (St l.pops).left (St l.pops).stack
 
+  -- the same, counted in the areas
+  work_is : {numbers bytes : List ℕ} {h : Heads} (l : Loop high n T numbers₀ bytes₀ numbers bytes h) → work n (graph_in n numbers bytes) (stack_in n h.stack numbers) ≡ to_do l
+  unfolding work weight
+  work_is {numbers} {bytes} {h} l =
+      rw (sum_cong n (λ w. heavy (degree_of (graph_in n numbers bytes) w)) (λ w. heavy (degree w (St l.pops).left))
+      (λ w q. ap heavy (degrees_in T n l.ns (St l.pops).peeled (graph_in n numbers bytes) l.rel w q ∙ ap (degree w) (sym l.left))))
+      (omega (arith, ap length l.stack))
+
   module _ {numbers bytes : List ℕ} {h : Heads} (l : Loop high n T numbers₀ bytes₀ numbers bytes h) where
     abbrev R : State
     R = St l.pops
@@ -595,6 +613,12 @@ module _ {high : Bool} {n : ℕ} {T : List Edge} {numbers₀ bytes₀ : List ℕ
                 rest = drop_agrees (n + r.stack) (numbers_room high n (length T)) numbers' (K four) (omega (arith, room_r, (rooms high n (length T)).0)) w.rest ∙ kept_rest high n (length T) h.peeled v i numbers (few four) (few_n four) ∙ l.rest;
                 rest_b = drop_agrees n (bytes_room high n (length T)) bytes' (B four) (rooms high n (length T)).1 w.rest_b ∙ kept_rest_b high n (length T) h.peeled t bytes (few four) ∙ l.rest_b;
               }
+
+      pub turn_less : (e : Edge) → e ≡ get_or T h.next no_edge → (numbers' bytes' : List ℕ) (r : Heads) → Turned high n h.stack h.peeled e numbers bytes numbers' bytes' r
+          → work n (graph_in n numbers' bytes') (stack_in n r.stack numbers') < work n (graph_in n numbers bytes) (stack_in n h.stack numbers)
+      turn_less e q numbers' bytes' r k =
+          let t = turned e q numbers' bytes' r k in
+          omega (arith, work_is l, work_is t.loop, t.less)
 
     pub loop_ends : h.stack ≤ 0 → PeelEnds high n T numbers₀ bytes₀ numbers bytes h.peeled
     loop_ends z = record {

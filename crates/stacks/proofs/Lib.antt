@@ -1,3 +1,1 @@
 pub mod Numbers
-pub mod Pushing
-pub mod Popping

@@ -12,7 +12,7 @@ use Prim.Native.Nat.{ℕ}
 use mathlib.Core.List.{List, [], ◌∷◌}
 use lib.ListN.{length}
 use seplogic.Ra.Ura.{Ura}
-use seplogic.Ra.TreeShare.{full_share}
+use base.Fraction.{full_share}
 use mir.Syntax.{named}
 use mir.Val.{Val}
 use base.Fml.{Lft, GName, Share, Fml, flft}
@@ -20,7 +20,7 @@ use types.Logic.{Logic}
 use types.Kit.{Goal, Soaks, Seq, Step, step, Item, ‵, ◌⊛◌, some, later, ◌$◌, move, use2, use3, split, pick, rewrite, await}
 use types.Tokens.{lft_new, lft_end}
 use denote.RattleType.{RattleType}
-use denote.Ref.{Bor, MutBor}
+use denote.Ref.{as_bor, Bor, MutBor}
 use denote.Slice.{slice_val, ShrSlice, MutSlice, Room, finally}
 use Rattle.walk_rules.proofs.Again.{LentAgain, lends_again, comes_back}
 
@@ -28,19 +28,19 @@ abbrev pub val : {X : Type 0} → Bor (List X) → Val
 val x = slice_val x.ref_ptr (length x.now)
 
 abbrev pub at : {X : Type 0} → MutBor (List X) → GName → List X → MutBor (List X)
-at x δ d = record { ref_ptr = x.ptr; ghost_name = δ; now = d }
+at x δ d = record { ref_ptr = x.ref_ptr; ghost_name = δ; now = d }
 
 abbrev pub Shr : (R : RattleType) → Lft → Bor (List R.Denot) → Fml
 Shr R κ x = (ShrSlice (named 0) κ R).own_val x (val x ∷ [])
 
 abbrev pub Mut : (R : RattleType) → Lft → MutBor (List R.Denot) → List R.Denot → Fml
-Mut R κ y d = (MutSlice (named 0) κ R).own_val (at y y.name d) (val y ∷ [])
+Mut R κ y d = (MutSlice (named 0) κ R).own_val (at y y.ghost_name d) (val (as_bor y) ∷ [])
 
 abbrev pub Lent : (R : RattleType) → ℕ → GName → MutBor (List R.Denot) → List R.Denot → Fml
-Lent R ν δ y d = (MutSlice (named 0) (ν ∷ []) R).own_val (at y δ d) (val y ∷ [])
+Lent R ν δ y d = (MutSlice (named 0) (ν ∷ []) R).own_val (at y δ d) (val (as_bor y) ∷ [])
 
 abbrev pub Kept : (R : RattleType) → Lft → Share → ℕ → GName → MutBor (List R.Denot) → List R.Denot → Fml
-Kept R κ q ν δ y d = LentAgain R κ (ν ∷ []) q y.name y.ptr.0 y.ptr.1 δ d
+Kept R κ q ν δ y d = LentAgain R κ (ν ∷ []) q y.ghost_name y.ref_ptr.0 y.ref_ptr.1 δ d
 
 module _ {M : Type 1} {𝓤 : Ura M} {𝓛 : Logic 𝓤} {K : Type 0} {Γ : List (Item 𝓤)} {G : Goal 𝓤 𝓛.H} where
   pub lends : K → Soaks G → (R : RattleType) (κ : Lft) (q : Share) (y : MutBor (List R.Denot)) (d : List R.Denot) → length d ≡ length y.now

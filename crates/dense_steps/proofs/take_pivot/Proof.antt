@@ -1,6 +1,5 @@
 -- The rows after the branch are the swapped rows either way; then they are cleared.
 use mathlib.Core.Path.{◌≡◌, refl, sym, ap, ◌∙◌, subst}
-use mathlib.Core.Logic.{⊎_elim}
 use mathlib.Core.List.{List}
 use Prim.Native.Nat.{ℕ, ◌/◌}
 use native.Mathlib.Omega.{arith}
@@ -9,14 +8,17 @@ use Rattle.dense_rows.specs.Rows.{held, Became}
 use Rattle.dense_rows.specs.Steps.{swap_rows, clear_below}
 use Rattle.dense_steps.proofs.Clearing.{became_then, became_same}
 use Rattle.dense_steps.proofs.take_pivot.Statement.{statement}
+use Rattle.dense_steps.proofs.take_pivot.Lts.{then-pivot-rank, else-pivot-rank}
 use Rattle.dense_steps.proofs.take_pivot.Tie as tie
 
 brought : (c : tie.Joined-pivot-rank) → let s = c in
     Became s.args.m s.args.w s.args.words.now (swap_rows (s.args.col / 64) s.args.rank s.args.pivot (held s.args.m s.args.w s.args.words.now)) c.if-pivot-rank.words
 brought c =
     let a = c.args in
-    ⊎_elim (λ v. rw v.5 v.2.ensures)
-    (λ v. became_same a.m a.w (a.col / 64) a.rank a.pivot a.words.now c.if-pivot-rank.words v.0.left v.1) c.if-pivot-rank.branch
+    elim c.if-pivot-rank.branch [
+      then-pivot-rank v ↦ rw v.words-is v.swap_rows.ensures
+      | else-pivot-rank v ↦ became_same a.m a.w (a.col / 64) a.rank a.pivot a.words.now c.if-pivot-rank.words v.if-pivot-rank.false v.words-is
+    ]
 
 pub take_pivot_spec : {M : Type 1} → statement M
 take_pivot_spec =

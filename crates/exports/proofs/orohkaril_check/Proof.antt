@@ -4,20 +4,20 @@ use Rattle.exports.proofs.Telling.{tells_check}
 use Rattle.exports.proofs.orohkaril_check.Statement.{statement}
 use Rattle.exports.proofs.orohkaril_check.Tie as tie
 
-returns : tie.Need-returns
+returns : tie.Need-returns-in-Refused
 returns c =
-    let d = c.before.before.before in
-    tells_check d.before.before.check.ensures d.answer.given.1 c.tell.ensures.0 c.tell.ensures.1
+    let d = c in
+    tells_check d.check.ensures d.in-Refused.is c.tell.ensures.0 c.tell.ensures.1
 
-returns_2 : tie.Need-returns-2
+returns_2 : tie.Need-returns-in-Yes
 returns_2 c =
-    let d = c.before.before in
-    tells_check d.before.before.check.ensures d.enum_told.given.1 c.tell2.ensures.0 c.tell2.ensures.1
+    let d = c in
+    tells_check d.check.ensures d.in-Yes.is c.tell-in-Yes.ensures.0 c.tell-in-Yes.ensures.1
 
-returns_3 : tie.Need-returns-3
+returns_3 : tie.Need-returns-in-No
 returns_3 c =
-    let d = c.before.before in
-    tells_check d.before.before.check.ensures d.enum-told2.given.1 c.tell3.ensures.0 c.tell3.ensures.1
+    let d = c in
+    tells_check d.check.ensures d.in-No.is c.tell-in-No.ensures.0 c.tell-in-No.ensures.1
 
 pub orohkaril_check_spec : {M : Type 1} → statement M
 orohkaril_check_spec =

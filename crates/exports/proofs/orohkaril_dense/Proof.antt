@@ -6,7 +6,7 @@ use Rattle.exports.proofs.orohkaril_dense.Tie as tie
 
 returns : tie.Need-returns
 returns c =
-    let e = c.before.before.before.before.before.before.before.before.dense-gaussian-elimination.ensures in
+    let e = c.dense_gaussian_elimination-answer.ensures in
     told_on e c.tell.ensures.0 c.tell.ensures.1
 
 pub orohkaril_dense_spec : {M : Type 1} → statement M

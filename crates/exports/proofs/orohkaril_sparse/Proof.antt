@@ -6,7 +6,7 @@ use Rattle.exports.proofs.orohkaril_sparse.Tie as tie
 
 returns : tie.Need-returns
 returns c =
-    let e = c.before.before.before.before.before.before.before.before.gaussian-elimination.ensures in
+    let e = c.gaussian_elimination-built.ensures in
     (told_on e.0 c.tell.ensures.0 c.tell.ensures.1, e.1)
 
 pub orohkaril_sparse_spec : {M : Type 1} → statement M

@@ -6,7 +6,7 @@ use Rattle.exports.proofs.orohkaril_sum.Tie as tie
 
 returns : tie.Need-returns
 returns c =
-    let e = c.before.before.before.before.sum.ensures in
+    let e = c.sum-summed.ensures in
     sum_told_on e c.tell.ensures.0 c.tell.ensures.1
 
 pub orohkaril_sum_spec : {M : Type 1} → statement M

@@ -4,11 +4,11 @@ use borrow.Author.Rules.{rules}
 use Rattle.lazy_setup.proofs.setup.Statement.{statement}
 use Rattle.lazy_setup.proofs.setup.Tie as tie
 
-setup_numbers_requires : tie.Need-setup-numbers-requires
-setup_numbers_requires c κs = let s = c.before.before.before.before.before.before.before.before.before.before.before.before.before.before.before in (fits_plain s.requires.0, s.requires.1)
+setup_numbers_requires : tie.Need-setup_numbers-first-requires
+setup_numbers_requires c κs = let s = c in (fits_plain s.requires.0, s.requires.1)
 
 returns : tie.Need-returns
-returns c = let s = c.before.before.before.before.before.before.before.before.before.before.before.before.before.before.before.before.before.before in let f = s.requires.0 in (stand_made f _ (c.before.before.setup-numbers.ensures.0 _ f), (c.before.before.setup-numbers.ensures.1 _ f, words_made f _ s.args.words.now _ _ c.before.before.before.before.before.before.before.before.before.before.before.lazy-words.ensures c.before.before.before.before.before.before.before.before.before.before.zero-words.ensures c.before.before.before.before.before.before.copy-words.ensures))
+returns c = let s = c in let f = s.requires.0 in (stand_made f _ (c.setup_numbers-first.ensures.0 _ f), (c.setup_numbers-first.ensures.1 _ f, words_made f _ s.args.words.now _ _ c.lazy_words.ensures c.zero_words.ensures c.copy_words.ensures))
 
 pub setup_spec : {M : Type 1} → statement M
 setup_spec =

@@ -6,22 +6,22 @@ use Rattle.lazy_setup.proofs.setup_numbers.Statement.{statement}
 use Rattle.lazy_setup.proofs.setup_numbers.Tie as tie
 
 load_requires : tie.Need-load-requires
-load_requires c κs = let s = c.before.before.before.before.before.before.before.before.before.before in let g = s.requires.0 in let at = c.before.of.result in let same = c.before.of.ensures in let a = zero_shows s.args.n s.args.m _ _ s.args.numbers.now _ s.requires.1 c.before.before.before.before.before.lazy-numbers.ensures c.before.before.before.before.zero-numbers.ensures in load_ready g at same a
+load_requires c κs = let s = c in let g = s.requires.0 in let at = c.of-at.result in let same = c.of-at.ensures in let a = zero_shows s.args.n s.args.m _ _ s.args.numbers.now _ s.requires.1 c.lazy_numbers.ensures c.zero_numbers.ensures in load_ready g at same a
 
 weigh_requires : tie.Need-weigh-requires
-weigh_requires c κs = let s = c.before.before.before.before.before.before.before.before.before.before.before.before.before.before in let g = s.requires.0 in let at = c.before.before.before.before.before.of.result in let same = c.before.before.before.before.before.of.ensures in let a = zero_shows s.args.n s.args.m _ _ s.args.numbers.now _ s.requires.1 c.before.before.before.before.before.before.before.before.before.lazy-numbers.ensures c.before.before.before.before.before.before.before.before.zero-numbers.ensures in let b = load_shows g at same a c.before.before.before.load.ensures in weigh_ready g at same b
+weigh_requires c κs = let s = c in let g = s.requires.0 in let at = c.of-at.result in let same = c.of-at.ensures in let a = zero_shows s.args.n s.args.m _ _ s.args.numbers.now _ s.requires.1 c.lazy_numbers.ensures c.zero_numbers.ensures in let b = load_shows g at same a c.load.ensures in weigh_ready g at same b
 
-fill_lists_requires : tie.Need-fill-lists-requires
-fill_lists_requires c κs = let s = c.before.before.before.before.before.before.before.before.before.before.before.before.before.before.before.before.before.before in let g = s.requires.0 in let at = c.before.before.before.before.before.before.before.before.before.of.result in let same = c.before.before.before.before.before.before.before.before.before.of.ensures in let a = zero_shows s.args.n s.args.m _ _ s.args.numbers.now _ s.requires.1 c.before.before.before.before.before.before.before.before.before.before.before.before.before.lazy-numbers.ensures c.before.before.before.before.before.before.before.before.before.before.before.before.zero-numbers.ensures in let b = load_shows g at same a c.before.before.before.before.before.before.before.load.ensures in let e = weigh_shows g at same b c.before.before.before.weigh.ensures in fill_ready g at same e
+fill_lists_requires : tie.Need-fill_lists-requires
+fill_lists_requires c κs = let s = c in let g = s.requires.0 in let at = c.of-at.result in let same = c.of-at.ensures in let a = zero_shows s.args.n s.args.m _ _ s.args.numbers.now _ s.requires.1 c.lazy_numbers.ensures c.zero_numbers.ensures in let b = load_shows g at same a c.load.ensures in let e = weigh_shows g at same b c.weigh.ensures in fill_ready g at same e
 
-sort_variables_requires : tie.Need-sort-variables-requires
-sort_variables_requires c κs = let s = c.before.before.before.before.before.before.before.before.before.before.before.before.before.before.before.before.before.before.before.before.before.before in let g = s.requires.0 in let at = c.before.before.before.before.before.before.before.before.before.before.before.before.before.of.result in let same = c.before.before.before.before.before.before.before.before.before.before.before.before.before.of.ensures in let a = zero_shows s.args.n s.args.m _ _ s.args.numbers.now _ s.requires.1 c.before.before.before.before.before.before.before.before.before.before.before.before.before.before.before.before.before.lazy-numbers.ensures c.before.before.before.before.before.before.before.before.before.before.before.before.before.before.before.before.zero-numbers.ensures in let b = load_shows g at same a c.before.before.before.before.before.before.before.before.before.before.before.load.ensures in let e = weigh_shows g at same b c.before.before.before.before.before.before.before.weigh.ensures in let f = fill_shows g at same e c.before.before.before.fill-lists.ensures in sort_ready g at same f
+sort_variables_requires : tie.Need-sort_variables-requires
+sort_variables_requires c κs = let s = c in let g = s.requires.0 in let at = c.of-at.result in let same = c.of-at.ensures in let a = zero_shows s.args.n s.args.m _ _ s.args.numbers.now _ s.requires.1 c.lazy_numbers.ensures c.zero_numbers.ensures in let b = load_shows g at same a c.load.ensures in let e = weigh_shows g at same b c.weigh.ensures in let f = fill_shows g at same e c.fill_lists.ensures in sort_ready g at same f
 
-first_list_requires : tie.Need-first-list-requires
-first_list_requires c κs = let s = c.before.before.before.before.before.before.before.before.before.before.before.before.before.before.before.before.before.before.before.before.before.before.before.before.before.before in let g = s.requires.0 in let at = c.before.before.before.before.before.before.before.before.before.before.before.before.before.before.before.before.before.of.result in let same = c.before.before.before.before.before.before.before.before.before.before.before.before.before.before.before.before.before.of.ensures in let a = zero_shows s.args.n s.args.m _ _ s.args.numbers.now _ s.requires.1 c.before.before.before.before.before.before.before.before.before.before.before.before.before.before.before.before.before.before.before.before.before.lazy-numbers.ensures c.before.before.before.before.before.before.before.before.before.before.before.before.before.before.before.before.before.before.before.before.zero-numbers.ensures in let b = load_shows g at same a c.before.before.before.before.before.before.before.before.before.before.before.before.before.before.before.load.ensures in let e = weigh_shows g at same b c.before.before.before.before.before.before.before.before.before.before.before.weigh.ensures in let f = fill_shows g at same e c.before.before.before.before.before.before.before.fill-lists.ensures in let h = sort_shows g at same f c.before.before.before.sort-variables.ensures in first_ready g at same h
+first_list_requires : tie.Need-first_list-requires
+first_list_requires c κs = let s = c in let g = s.requires.0 in let at = c.of-at.result in let same = c.of-at.ensures in let a = zero_shows s.args.n s.args.m _ _ s.args.numbers.now _ s.requires.1 c.lazy_numbers.ensures c.zero_numbers.ensures in let b = load_shows g at same a c.load.ensures in let e = weigh_shows g at same b c.weigh.ensures in let f = fill_shows g at same e c.fill_lists.ensures in let h = sort_shows g at same f c.sort_variables.ensures in first_ready g at same h
 
 returns : tie.Need-returns
-returns c = let s = c.before.before.before.before.before.before.before.before.before.before.before.before.before.before.before.before.before.before.before.before.before.before.before.before.before.before.before.before.before in let g = s.requires.0 in let at = c.before.before.before.before.before.before.before.before.before.before.before.before.before.before.before.before.before.before.before.before.of.result in let same = c.before.before.before.before.before.before.before.before.before.before.before.before.before.before.before.before.before.before.before.before.of.ensures in let a = zero_shows s.args.n s.args.m _ _ s.args.numbers.now _ s.requires.1 c.before.before.before.before.before.before.before.before.before.before.before.before.before.before.before.before.before.before.before.before.before.before.before.before.lazy-numbers.ensures c.before.before.before.before.before.before.before.before.before.before.before.before.before.before.before.before.before.before.before.before.before.before.before.zero-numbers.ensures in let b = load_shows g at same a c.before.before.before.before.before.before.before.before.before.before.before.before.before.before.before.before.before.before.load.ensures in let e = weigh_shows g at same b c.before.before.before.before.before.before.before.before.before.before.before.before.before.before.weigh.ensures in let f = fill_shows g at same e c.before.before.before.before.before.before.before.before.before.before.fill-lists.ensures in let h = sort_shows g at same f c.before.before.before.before.before.before.sort-variables.ensures in let i = first_shows g at same h c.before.before.first-list.ensures.1 in (λ constants k. first_many g at same h c.before.before.first-list.ensures.0 ∙ first_number g k, λ constants k. made_numbers g k i)
+returns c = let s = c in let g = s.requires.0 in let at = c.of-at.result in let same = c.of-at.ensures in let a = zero_shows s.args.n s.args.m _ _ s.args.numbers.now _ s.requires.1 c.lazy_numbers.ensures c.zero_numbers.ensures in let b = load_shows g at same a c.load.ensures in let e = weigh_shows g at same b c.weigh.ensures in let f = fill_shows g at same e c.fill_lists.ensures in let h = sort_shows g at same f c.sort_variables.ensures in let i = first_shows g at same h c.first_list.ensures.1 in (λ constants k. first_many g at same h c.first_list.ensures.0 ∙ first_number g k, λ constants k. made_numbers g k i)
 
 pub setup_numbers_spec : {M : Type 1} → statement M
 setup_numbers_spec =

@@ -5,25 +5,25 @@ use Rattle.link_load.proofs.Loading.{Noting, noting_begin, noting_room, noting_t
 use Rattle.link_load.proofs.load_numbers.Statement.{statement}
 use Rattle.link_load.proofs.load_numbers.Tie as tie
 
-abbrev invariant_loop : tie.invariant-loop
+abbrev invariant_loop : tie.invariant-loop-i
 invariant_loop bytes at w count vars₀ to p₀ i₀ vars p i = Noting bytes at w count vars₀ to p i vars
 
-abbrev decreases_loop : tie.decreases-loop
+abbrev decreases_loop : tie.decreases-loop-i
 decreases_loop bytes at w count vars₀ to p₀ i₀ vars p i = count - i
 
-loop_holds : tie.Need-loop-init invariant_loop decreases_loop
+loop_holds : tie.Need-loop-i-init invariant_loop decreases_loop
 loop_holds c = search (rules, noting_begin)
 
-read_number_requires : tie.Need-read-number-requires invariant_loop decreases_loop
-read_number_requires c κs = let r = noting_room c.before.loop.invariant c.loop-test.true in search rules
+read_number_requires : tie.Need-read_number-requires invariant_loop decreases_loop
+read_number_requires c κs = let r = noting_room c.loop-i.invariant c.loop-i-test.true in search rules
 
-cast_vars : tie.Need-overflow-cast-vars invariant_loop decreases_loop
+cast_vars : tie.Need-overflow_cast-vars invariant_loop decreases_loop
 cast_vars c = search (rules, narrow_fits)
 
-add_p : tie.Need-overflow-add-p invariant_loop decreases_loop
-add_p c = let r = noting_room c.before.before.loop.invariant c.before.loop-test.true in search rules
+add_p : tie.Need-overflow_add-p invariant_loop decreases_loop
+add_p c = let r = noting_room c.loop-i.invariant c.loop-i-test.true in search rules
 
-loop_again : tie.Need-loop-preserved invariant_loop decreases_loop
+loop_again : tie.Need-loop-i-preserved invariant_loop decreases_loop
 loop_again c = search (rules, noting_turn)
 
 returns : tie.Need-returns invariant_loop decreases_loop

@@ -8,80 +8,80 @@ use Rattle.link_load.proofs.Loading.{Loading, loading_begin, first_start, loadin
 use Rattle.link_load.proofs.load_rows.Statement.{statement}
 use Rattle.link_load.proofs.load_rows.Tie as tie
 
-abbrev invariant_loop : tie.invariant-loop
+abbrev invariant_loop : tie.invariant-loop-i
 invariant_loop bytes at kind w m starts₀ vars₀ constants₀ p₀ t₀ i₀ starts vars constants p t i = Loading bytes kind w m (rows_at kind w m at bytes) starts₀ vars₀ constants₀ starts vars constants p t i
 
-abbrev decreases_loop : tie.decreases-loop
+abbrev decreases_loop : tie.decreases-loop-i
 decreases_loop bytes at kind w m starts₀ vars₀ constants₀ p₀ t₀ i₀ starts vars constants p t i = m - i
 
-loop_holds : tie.Need-loop-init invariant_loop decreases_loop
+loop_holds : tie.Need-loop-i-init invariant_loop decreases_loop
 loop_holds c =
-    let s = c.before.before.before.before in
+    let s = c in
     let a = s.args in
     loading_begin a.bytes.now a.kind a.w a.m a.at (rows_at a.kind a.w a.m a.at a.bytes.now) a.starts.now a.vars.now a.constants.now s.requires.0.0 s.requires.0.1 s.requires.0.2 s.requires.0.3 s.requires.0.4 s.requires.1.0 s.requires.1.1 s.requires.1.2
 
-load_vars_requires : tie.Need-load-vars-requires invariant_loop decreases_loop
+load_vars_requires : tie.Need-load_vars-count-requires invariant_loop decreases_loop
 load_vars_requires c κs =
-    let l = c.before.before.loop.invariant in
-    let r = loading_room l c.before.loop-test.true in
+    let l = c.loop-i.invariant in
+    let r = loading_room l c.loop-i-test.true in
     (r.0, l.short, l.wide, l.narrow, r.1)
 
-add_end : tie.Need-overflow-add-end invariant_loop decreases_loop
+add_end : tie.Need-overflow_add-end invariant_loop decreases_loop
 add_end c =
     let b = c in
-    let f = loading_sizes b.before.before.before.before.before.before.loop.invariant b.before.before.before.before.before.loop-test.true b.before.before.before.load-vars.ensures.0 b.count-bytes.ensures in
+    let f = loading_sizes b.loop-i.invariant b.loop-i-test.true b.load_vars-count.ensures.0 b.count_bytes.ensures in
     search rules
 
-mul_end : tie.Need-overflow-mul-end invariant_loop decreases_loop
+mul_end : tie.Need-overflow_mul-end invariant_loop decreases_loop
 mul_end c =
     let b = c in
-    let f = loading_sizes b.before.before.before.before.before.before.loop.invariant b.before.before.before.before.before.loop-test.true b.before.before.before.load-vars.ensures.0 b.count-bytes.ensures in
+    let f = loading_sizes b.loop-i.invariant b.loop-i-test.true b.load_vars-count.ensures.0 b.count_bytes.ensures in
     search rules
 
-add_end_2 : tie.Need-overflow-add-end-2 invariant_loop decreases_loop
+add_end_2 : tie.Need-overflow_add-end-in-loop-i invariant_loop decreases_loop
 add_end_2 c =
     let b = c in
-    let f = loading_sizes b.before.before.before.before.before.before.loop.invariant b.before.before.before.before.before.loop-test.true b.before.before.before.load-vars.ensures.0 b.count-bytes.ensures in
+    let f = loading_sizes b.loop-i.invariant b.loop-i-test.true b.load_vars-count.ensures.0 b.count_bytes.ensures in
     search rules
 
-read_number_requires : tie.Need-read-number-requires invariant_loop decreases_loop
+read_number_requires : tie.Need-read_number-requires invariant_loop decreases_loop
 read_number_requires c κs =
     let b = c in
-    let f = loading_sizes b.before.before.before.before.before.before.loop.invariant b.before.before.before.before.before.loop-test.true b.before.before.before.load-vars.ensures.0 b.count-bytes.ensures in
+    let f = loading_sizes b.loop-i.invariant b.loop-i-test.true b.load_vars-count.ensures.0 b.count_bytes.ensures in
     search rules
 
-add_p : tie.Need-overflow-add-p invariant_loop decreases_loop
+add_p : tie.Need-overflow_add-p invariant_loop decreases_loop
 add_p c =
-    let b = c.before in
-    let f = loading_sizes b.before.before.before.before.before.before.loop.invariant b.before.before.before.before.before.loop-test.true b.before.before.before.load-vars.ensures.0 b.count-bytes.ensures in
+    let b = c in
+    let f = loading_sizes b.loop-i.invariant b.loop-i-test.true b.load_vars-count.ensures.0 b.count_bytes.ensures in
     search rules
 
-add_t : tie.Need-overflow-add-t invariant_loop decreases_loop
+add_t : tie.Need-overflow_add-t invariant_loop decreases_loop
 add_t c =
-    let b = c.before in
-    let f = loading_sizes b.before.before.before.before.before.before.loop.invariant b.before.before.before.before.before.loop-test.true b.before.before.before.load-vars.ensures.0 b.count-bytes.ensures in
+    let b = c in
+    let f = loading_sizes b.loop-i.invariant b.loop-i-test.true b.load_vars-count.ensures.0 b.count_bytes.ensures in
     search rules
 
-cast_starts : tie.Need-overflow-cast-starts invariant_loop decreases_loop
+cast_starts : tie.Need-overflow_cast-starts invariant_loop decreases_loop
 cast_starts c =
-    let b = c.before in
-    let f = loading_sizes b.before.before.before.before.before.before.loop.invariant b.before.before.before.before.before.loop-test.true b.before.before.before.load-vars.ensures.0 b.count-bytes.ensures in
+    let b = c in
+    let f = loading_sizes b.loop-i.invariant b.loop-i-test.true b.load_vars-count.ensures.0 b.count_bytes.ensures in
     search rules
 
-loop_again : tie.Need-loop-preserved invariant_loop decreases_loop
+loop_again : tie.Need-loop-i-preserved invariant_loop decreases_loop
 loop_again c =
-    let b = c.before in
-    loading_turn b.before.before.before.before.before.before.loop.invariant b.before.before.before.before.before.loop-test.true b.before.before.before.load-vars.ensures.0
-    b.before.before.before.load-vars.ensures.1 b.count-bytes.ensures c.read_number.ensures.0
+    let b = c in
+    loading_turn b.loop-i.invariant b.loop-i-test.true b.load_vars-count.ensures.0
+    b.load_vars-count.ensures.1 b.count_bytes.ensures c.read_number.ensures.0
 
-same_length : tie.Need-same-length invariant_loop decreases_loop
-same_length c = let e = length-set c.before.before.before.before.before.before.args.starts.now 0 0 in search rules
+same_length : tie.Need-shape_of-starts invariant_loop decreases_loop
+same_length c = let e = length-set c.args.starts.now 0 0 in search rules
 
 returns : tie.Need-returns invariant_loop decreases_loop
 returns c =
-    let s = c.before.before.before.before.before.before in
+    let s = c in
     let a = s.args in
-    let e = loading_end c.before.loop.invariant c.loop-test.false in
+    let e = loading_end c.loop-i.invariant c.loop-i-test.false in
     (e.0 ∙ first_start (rows_at a.kind a.w a.m a.at a.bytes.now) a.starts.now (omega (arith, s.requires.1.0)), (e.1, e.2))
 
 pub load_rows_spec : {M : Type 1} → statement M

@@ -6,34 +6,34 @@ use borrow.Author.Rules.{rules}
 use Rattle.link_load.proofs.load_vars.Statement.{statement}
 use Rattle.link_load.proofs.load_vars.Tie as tie
 
-count_at_requires : tie.Need-count-at-requires
+count_at_requires : tie.Need-count_at-count-requires
 count_at_requires c κs =
-    let a = c.before.before.args in
-    let r = row_rooms a.kind a.w a.at a.bytes.now c.before.before.requires.0 in
+    let a = c.args in
+    let r = row_rooms a.kind a.w a.at a.bytes.now c.requires.0 in
     search rules
 
-add_load_numbers : tie.Need-overflow-add-load-numbers
+add_load_numbers : tie.Need-overflow_add-at
 add_load_numbers c =
-    let a = c.before.before.before.before.args in
-    let r = row_rooms a.kind a.w a.at a.bytes.now c.before.before.before.before.requires.0 in
+    let a = c.args in
+    let r = row_rooms a.kind a.w a.at a.bytes.now c.requires.0 in
     search rules
 
-load_numbers_requires : tie.Need-load-numbers-requires
+load_numbers_requires : tie.Need-load_numbers-requires
 load_numbers_requires c κs =
-    let s = c.before.before.before.before.before in
+    let s = c in
     let a = s.args in
     let r = row_rooms a.kind a.w a.at a.bytes.now s.requires.0 in
-    let h = c.before.count-bytes.ensures in
-    let k = c.before.before.count_at.ensures.0 in
+    let h = c.count_bytes.ensures in
+    let k = c.count_at-count.ensures.0 in
     let q = ap (λ (n : ℕ). n * a.w) k in
     (omega arith, s.requires.1, s.requires.3, omega (arith, s.requires.4))
 
 returns : tie.Need-returns
 returns c =
-    let n = c.before.before.load-numbers.ensures in
-    let h = c.before.before.before.before.count-bytes.ensures in
-    let k = c.before.before.before.before.before.count_at.ensures.0 in
-    let a = c.before.before.before.before.before.before.before.before.args in
+    let n = c.load_numbers.ensures in
+    let h = c.count_bytes.ensures in
+    let k = c.count_at-count.ensures.0 in
+    let a = c.args in
     (k, rw (h, k, ← (row_vars a.kind a.w a.at a.bytes.now)) at n)
 
 pub load_vars_spec : {M : Type 1} → statement M

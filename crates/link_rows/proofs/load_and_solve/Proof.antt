@@ -12,21 +12,21 @@ use borrow.Author.Rules.{rules}
 use Rattle.link_rows.proofs.load_and_solve.Statement.{statement}
 use Rattle.link_rows.proofs.load_and_solve.Tie as tie
 
-slice_aggregate_solve_laid : tie.Need-slice-aggregate-solve-laid
+slice_aggregate_solve_laid : tie.Need-slice_bounds-solve_laid-end-2
 slice_aggregate_solve_laid c = sym (length-take-le _ _ (search rules))
 
-slice_aggregate_solve_laid_2 : tie.Need-slice-aggregate-solve-laid-2
+slice_aggregate_solve_laid_2 : tie.Need-slice_bounds-solve_laid-end-4
 slice_aggregate_solve_laid_2 c = sym (length-take-le _ _ (search rules))
 
-slice_aggregate_solve_laid_3 : tie.Need-slice-aggregate-solve-laid-3
+slice_aggregate_solve_laid_3 : tie.Need-slice_bounds-solve_laid-end-6
 slice_aggregate_solve_laid_3 c = sym (length-take-le _ _ (search rules))
 
 returns : tie.Need-returns
 returns c =
-    let s = c.before.before.before.before.before.before.before.before.before.before.before.before.before.before.before.before.before.before.before.before.before.before in
+    let s = c in
     let a = s.args in
-    let l = c.before.before.before.before.before.before.before.before.before.before.before.before.before.load-rows.ensures in
-    let q = c.before.before.solve-laid.ensures in
+    let l = c.load_rows.ensures in
+    let q = c.solve_laid.ensures in
     let served = s.requires.0.0 in
     let rows : List Equation = file_rows a.kind a.m a.bytes.now in
     let many = length_rows a.kind width a.m (drop header_bytes a.bytes.now) rows served.whole in

@@ -4,15 +4,15 @@ use Rattle.answers.proofs.Told.{tells_answer}
 use Rattle.link_rows.proofs.solve_by_kind.Statement.{statement}
 use Rattle.link_rows.proofs.solve_by_kind.Tie as tie
 
-returns : tie.Need-returns
+returns : tie.Need-returns-then-kind-eq-LAZY
 returns c =
-    let e = c.before.before.before.before.before.before.lazy-gaussian-elimination.ensures in
-    rw (lazy_solver c.before.before.before.before.before.before.before.before.before.before.before.before.before.before.before.before.before.args.kind c.before.before.before.before.before.before.before.before.before.before.if1.true) (tells_answer e.0, e.0.solution_is)
+    let e = c.lazy_gaussian_elimination-built.ensures in
+    rw (lazy_solver c.args.kind c.if-kind-eq-LAZY.true) (tells_answer e.0, e.0.solution_is)
 
-returns_2 : tie.Need-returns-2
+returns_2 : tie.Need-returns
 returns_2 c =
-    let e = c.before.before.before.before.before.before.gaussian-elimination.ensures in
-    rw (sparse_solver c.before.before.before.before.before.before.before.before.before.before.before.before.before.before.before.before.before.args.kind c.before.before.before.before.before.before.before.before.before.before.if1.false) (tells_answer e.0, e.0.solution_is)
+    let e = c.gaussian_elimination-built.ensures in
+    rw (sparse_solver c.args.kind c.if-kind-eq-LAZY.false) (tells_answer e.0, e.0.solution_is)
 
 pub solve_by_kind_spec : {M : Type 1} → statement M
 solve_by_kind_spec =

@@ -15,4 +15,4 @@ clear_spec =
     (λ c κs. search rules)  -- zero-words-requires
     (λ c. search rules)  -- same-length
     (λ c. search rules)  -- same-length-2
-    (λ c. (zeroed_cleared _ _ _ c.before.before.before.before.before.before.zero-numbers.ensures, zeroed_cleared _ _ _ c.before.before.zero-words.ensures)))
+    (λ c. (zeroed_cleared _ _ _ c.zero_numbers.ensures, zeroed_cleared _ _ _ c.zero_words.ensures)))

@@ -12,10 +12,10 @@ empty_spec =
     (tie.spec
     (λ c. search rules)  -- mul-lens
     (λ c. search rules)  -- add-lens
-    (λ c κs. drawn_padded c.before.before.before.requires)  -- empty-rows-requires
+    (λ c κs. drawn_padded c.requires)  -- empty-rows-requires
     (λ c. search rules)  -- add-zero-numbers
     (λ c κs. search rules)  -- zero-numbers-requires
     (λ c κs. search rules)  -- zero-words-requires
     (λ c. search rules)  -- same-length
     (λ c. search rules)  -- same-length-2
-    (λ c. (emptied c.before.before.before.before.before.before.before.before.before.before.before.before.before.before.requires _ _ c.before.before.before.before.before.before.before.before.before.before.empty-rows.ensures c.before.before.before.before.before.before.zero-numbers.ensures, zeroed_cleared _ _ _ c.before.before.zero-words.ensures)))
+    (λ c. (emptied c.requires _ _ c.empty_rows.ensures c.zero_numbers.ensures, zeroed_cleared _ _ _ c.zero_words.ensures)))

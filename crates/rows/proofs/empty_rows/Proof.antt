@@ -6,38 +6,38 @@ use Rattle.rows.proofs.Padding.{Emptying, RowHere, row_here, emptying_begin, emp
 use Rattle.rows.proofs.empty_rows.Statement.{statement}
 use Rattle.rows.proofs.empty_rows.Tie as tie
 
-abbrev invariant_loop : tie.invariant-loop
+abbrev invariant_loop : tie.invariant-loop-i
 invariant_loop numbers₀ at lengths n m i₀ numbers i = Emptying at lengths n m numbers₀ i numbers
 
-abbrev decreases_loop : tie.decreases-loop
+abbrev decreases_loop : tie.decreases-loop-i
 decreases_loop numbers₀ at lengths n m i₀ numbers i = m - i
 
-mul_row : tie.Need-overflow-mul-row invariant_loop decreases_loop
-mul_row c = let r = row_here c.before.loop.invariant c.loop-test.true in omega arith
+mul_row : tie.Need-overflow_mul-row invariant_loop decreases_loop
+mul_row c = let r = row_here c.loop-i.invariant c.loop-i-test.true in omega arith
 
-add_row : tie.Need-overflow-add-row invariant_loop decreases_loop
-add_row c = let r = row_here c.before.loop.invariant c.loop-test.true in omega arith
+add_row : tie.Need-overflow_add-row invariant_loop decreases_loop
+add_row c = let r = row_here c.loop-i.invariant c.loop-i-test.true in omega arith
 
-add_len : tie.Need-overflow-add-len invariant_loop decreases_loop
-add_len c = let r = row_here c.before.loop.invariant c.loop-test.true in omega arith
+add_len : tie.Need-overflow_add-len invariant_loop decreases_loop
+add_len c = let r = row_here c.loop-i.invariant c.loop-i-test.true in omega arith
 
-mul_len : tie.Need-overflow-mul-len invariant_loop decreases_loop
-mul_len c = let r = row_here c.before.loop.invariant c.loop-test.true in omega arith
+mul_len : tie.Need-offset_bounds-numbers-lengths invariant_loop decreases_loop
+mul_len c = let r = row_here c.loop-i.invariant c.loop-i-test.true in omega arith
 
-slice_read_len : tie.Need-slice-read-len invariant_loop decreases_loop
-slice_read_len c = let r = row_here c.before.before.loop.invariant c.before.loop-test.true in omega arith
+slice_read_len : tie.Need-bounds-numbers-lengths invariant_loop decreases_loop
+slice_read_len c = let r = row_here c.loop-i.invariant c.loop-i-test.true in omega arith
 
-cast_len : tie.Need-overflow-cast-len invariant_loop decreases_loop
-cast_len c = let r = row_here c.before.before.loop.invariant c.before.loop-test.true in omega (arith, c.slice-known2.given (c.before.before.before.before.args.lengths + c.before.before.loop.i))
+cast_len : tie.Need-overflow_cast-len invariant_loop decreases_loop
+cast_len c = let r = row_here c.loop-i.invariant c.loop-i-test.true in omega (arith, c.slice_known-in-loop-i-1.given (c.args.lengths + c.loop-i.i))
 
-add_zero_numbers : tie.Need-overflow-add-zero-numbers invariant_loop decreases_loop
-add_zero_numbers c = let r = row_here c.before.before.before.loop.invariant c.before.before.loop-test.true in omega arith
+add_zero_numbers : tie.Need-overflow_add-row-in-loop-i invariant_loop decreases_loop
+add_zero_numbers c = let r = row_here c.loop-i.invariant c.loop-i-test.true in omega arith
 
-zero_numbers_requires : tie.Need-zero-numbers-requires invariant_loop decreases_loop
-zero_numbers_requires c κs = let r = row_here c.before.before.before.loop.invariant c.before.before.loop-test.true in (omega arith, omega arith)
+zero_numbers_requires : tie.Need-zero_numbers-requires invariant_loop decreases_loop
+zero_numbers_requires c κs = let r = row_here c.loop-i.invariant c.loop-i-test.true in (omega arith, omega arith)
 
-loop_again : tie.Need-loop-preserved invariant_loop decreases_loop
-loop_again c = rw c.before.before.zero-numbers.ensures (emptying_turn c.before.before.before.before.before.before.loop.invariant c.before.before.before.before.before.loop-test.true)
+loop_again : tie.Need-loop-i-preserved invariant_loop decreases_loop
+loop_again c = rw c.zero_numbers.ensures (emptying_turn c.loop-i.invariant c.loop-i-test.true)
 
 pub empty_rows_spec : {M : Type 1} → statement M
 empty_rows_spec =

@@ -13,9 +13,9 @@ store_row_spec =
     (tie.spec
     (λ c. search rules)  -- mul-lens
     (λ c. search rules)  -- add-lens
-    (λ c. let s = c.before.before.before.before in let h = row_before s.args.i s.args.m s.args.n s.requires.0.1 in record { fits = omega (arith, s.requires.0.0.numbers_room_lem) })  -- mul-copy-numbers
-    (λ c κs. let s = c.before.before.before.before in store_fits s.requires.0.0 s.args.i s.requires.0.1 s.args.vars.now s.requires.1.1)  -- copy-numbers-requires
-    (λ c. let s = c.before.before.before.before.before.before.before in let h = store_short s.requires.0.0 s.args.i s.requires.0.1 s.args.vars.now s.requires.1.1 in omega (arith, s.requires.0.2))  -- cast-numbers
+    (λ c. let s = c in let h = row_before s.args.i s.args.m s.args.n s.requires.0.1 in record { fits = omega (arith, s.requires.0.0.numbers_room_lem) })  -- mul-copy-numbers
+    (λ c κs. let s = c in store_fits s.requires.0.0 s.args.i s.requires.0.1 s.args.vars.now s.requires.1.1)  -- copy-numbers-requires
+    (λ c. let s = c in let h = store_short s.requires.0.0 s.args.i s.requires.0.1 s.args.vars.now s.requires.1.1 in omega (arith, s.requires.0.2))  -- cast-numbers
     (λ c. search rules)  -- add-numbers
     (λ c. search rules)  -- mul-numbers
     (λ c. search rules)  -- slice-write-numbers
@@ -23,4 +23,4 @@ store_row_spec =
     (λ c. search rules)  -- slice-write-words
     (λ c. search rules)  -- same-length
     (λ c. search rules)  -- same-length-2
-    (λ c. let s = c.before.before.before.before.before.before.before in store_done s.requires.0.0 s.args.i s.requires.0.1 s.args.vars.now s.requires.1.1 _ _ s.requires.1.0 c.before.before.copy-numbers.ensures))
+    (λ c. let s = c in store_done s.requires.0.0 s.args.i s.requires.0.1 s.args.vars.now s.requires.1.1 _ _ s.requires.1.0 c.copy_numbers.ensures))

@@ -35,9 +35,9 @@ swap_rows_spec =
     (λ c. search rules)  -- slice-write-words
     (λ c. search rules)  -- mul-words-3
     (λ c. simp length-set (omega arith))  -- slice-write-words-2
-    (λ c. let s = c.before.before.before.before.before.before.before.before in let h = row_before s.args.i s.args.m s.args.n (omega arith) in record { fits = omega arith })  -- mul-exchange-front
-    (λ c. let s = c.before.before.before.before.before.before.before.before in let h = row_before s.args.j s.args.m s.args.n (omega arith) in record { fits = omega arith })  -- mul-exchange-front-2
-    (λ c κs. let s = c.before.before.before.before.before.before.before.before in swap_fits s.requires.0 s.args.i s.args.j _ s.requires.1 s.requires.2 c.before.before.before.longer.ensures)  -- exchange-front-requires
-    (λ c. let s = c.before.before.before.before.before.before.before.before.before.before.before in c.before.numbers.given ∙ swap_length s.requires.0 s.args.i s.args.j _ s.requires.1 s.requires.2 c.before.before.before.before.before.before.longer.ensures)  -- same-length
+    (λ c. let s = c in let h = row_before s.args.i s.args.m s.args.n (omega arith) in record { fits = omega arith })  -- mul-exchange-front
+    (λ c. let s = c in let h = row_before s.args.j s.args.m s.args.n (omega arith) in record { fits = omega arith })  -- mul-exchange-front-2
+    (λ c κs. let s = c in swap_fits s.requires.0 s.args.i s.args.j _ s.requires.1 s.requires.2 c.longer-k.ensures)  -- exchange-front-requires
+    (λ c. let s = c in c.numbers-1.given ∙ swap_length s.requires.0 s.args.i s.args.j _ s.requires.1 s.requires.2 c.longer-k.ensures)  -- same-length
     (λ c. search rules)  -- same-length-2
-    (λ c. let s = c.before.before.before.before.before.before.before.before.before.before.before in swap_done s.requires.0 s.args.i s.args.j _ s.requires.1 s.requires.2 c.before.before.before.before.before.before.longer.ensures _ _ c.before.before.exchange-front.ensures))
+    (λ c. let s = c in swap_done s.requires.0 s.args.i s.args.j _ s.requires.1 s.requires.2 c.longer-k.ensures _ _ c.exchange_front.ensures))

@@ -10,48 +10,48 @@ use Rattle.slow_rules.specs.SlowCall.{slow_call}
 use Rattle.slow_dense.proofs.slow_gaussian_elimination.Statement.{statement}
 use Rattle.slow_dense.proofs.slow_gaussian_elimination.Tie as tie
 
-returns : tie.Need-returns
+returns : tie.Need-returns-in-Broken
 unfolding slow_call
-returns c = simp (sym c.before.before.before.check-rules.ensures ∙ c.before.answer.given.1) call_tells
+returns c = simp (sym c.check_rules.ensures ∙ c.in-Broken.is) call_tells
 
-returns_2 : tie.Need-returns-2
+returns_2 : tie.Need-returns-then-solution-n
 unfolding slow_call
-returns_2 c = simp (sym c.before.before.before.check-rules.ensures ∙ c.before.enum_told.given.1, eqb_ne _ _ c.if1.true) call_tells
+returns_2 c = simp (sym c.check_rules.ensures ∙ c.in_default.is, eqb_ne _ _ c.if-solution-n.true) call_tells
 
-returns_3 : tie.Need-returns-3
+returns_3 : tie.Need-returns-then-numbers-m
 unfolding slow_call
 returns_3 c =
-    simp (sym c.before.before.before.before.check-rules.ensures ∙ c.before.before.enum_told.given.1, eq-eqb _ _ c.before.if1.false, lt-leb _ _ c.if2.true) call_tells
+    simp (sym c.check_rules.ensures ∙ c.in_default.is, eq-eqb _ _ c.if-solution-n.false, lt-leb _ _ c.if-numbers-m.true) call_tells
 
-dense_words_requires : tie.Need-dense-words-requires
+dense_words_requires : tie.Need-dense_words-requires
 dense_words_requires c κs =
-    let a = c.before.before.before.before.before.before.before.before.before.before.args in
-    let h = dense_kept_sound a.n a.m a.w a.rows.now a.constants.now (sym c.before.before.before.before.check-rules.ensures ∙ c.before.before.enum_told.given.1) in
+    let a = c.args in
+    let h = dense_kept_sound a.n a.m a.w a.rows.now a.constants.now (sym c.check_rules.ensures ∙ c.in_default.is) in
     (h.few_rows, h.few_words)
 
-returns_4 : tie.Need-returns-4
+returns_4 : tie.Need-returns-then-words-dense_words
 unfolding slow_call
 returns_4 c =
     simp (
-      sym c.before.before.before.before.before.before.check-rules.ensures ∙ c.before.before.before.before.enum_told.given.1,
-      eq-eqb _ _ c.before.before.before.if1.false,
-      le-leb _ _ c.before.before.if2.false,
-      lt-leb _ _ (rw c.before.dense-words.ensures at c.if3.true),
+      sym c.check_rules.ensures ∙ c.in_default.is,
+      eq-eqb _ _ c.if-solution-n.false,
+      le-leb _ _ c.if-numbers-m.false,
+      lt-leb _ _ (rw c.dense_words.ensures at c.if-words-dense_words.true),
     ) call_tells
 
 solve_requires : tie.Need-solve-requires
 solve_requires c κs =
-    (sym c.before.before.before.before.before.before.before.before.before.check-rules.ensures ∙ c.before.before.before.before.before.before.before.enum_told.given.1, c.before.before.before.before.before.before.if1.false, c.before.before.before.before.before.if2.false, rw c.before.before.before.before.dense-words.ensures at c.before.before.before.if3.false)
+    (sym c.check_rules.ensures ∙ c.in_default.is, c.if-solution-n.false, c.if-numbers-m.false, rw c.dense_words.ensures at c.if-words-dense_words.false)
 
-returns_5 : tie.Need-returns-5
+returns_5 : tie.Need-returns
 unfolding slow_call
 returns_5 c =
     simp (
-      sym c.before.before.before.before.before.before.before.before.before.before.before.before.before.before.before.before.check-rules.ensures ∙ c.before.before.before.before.before.before.before.before.before.before.before.before.before.before.enum_told.given.1,
-      eq-eqb _ _ c.before.before.before.before.before.before.before.before.before.before.before.before.before.if1.false,
-      le-leb _ _ c.before.before.before.before.before.before.before.before.before.before.before.before.if2.false,
-      le-leb _ _ (rw c.before.before.before.before.before.before.before.before.before.before.before.dense-words.ensures at c.before.before.before.before.before.before.before.before.before.before.if3.false),
-    ) (tells c.before.before.before.before.before.before.solve.ensures)
+      sym c.check_rules.ensures ∙ c.in_default.is,
+      eq-eqb _ _ c.if-solution-n.false,
+      le-leb _ _ c.if-numbers-m.false,
+      le-leb _ _ (rw c.dense_words.ensures at c.if-words-dense_words.false),
+    ) (tells c.solve.ensures)
 
 pub slow_gaussian_elimination_spec : {M : Type 1} → statement M
 slow_gaussian_elimination_spec =

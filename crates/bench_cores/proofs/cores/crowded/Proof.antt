@@ -8,28 +8,28 @@ use Rattle.bench_cores.proofs.Counting.{all_alive, Crowding, crowding_begin, cro
 use Rattle.bench_cores.proofs.cores.crowded.Statement.{statement}
 use Rattle.bench_cores.proofs.cores.crowded.Tie as tie
 
-abbrev invariant_loop : tie.invariant-loop
+abbrev invariant_loop : tie.invariant-loop-v
 invariant_loop table m n alive v₀ v = Crowding n (take m table) v
 
-abbrev decreases_loop : tie.decreases-loop
+abbrev decreases_loop : tie.decreases-loop-v
 decreases_loop table m n alive v₀ v = n - v
 
-returns : tie.Need-returns invariant_loop decreases_loop
+returns : tie.Need-returns-then-degree-ge64 invariant_loop decreases_loop
 returns c =
-    let a = c.before.before.before.before.before.args in
-    let l = c.before.before.before.before.loop in
-    let d = c.before.degree.ensures.0 ∙ ap (degree l.v) (all_alive a.m a.table (omega arith) (omega arith)) in
+    let a = c.args in
+    let l = c.loop-v in
+    let d = c.degree.ensures.0 ∙ ap (degree l.v) (all_alive a.m a.table (omega arith) (omega arith)) in
     crowding_found l.invariant (omega arith)
 
-loop_again : tie.Need-loop-preserved invariant_loop decreases_loop
+loop_again : tie.Need-loop-v-preserved invariant_loop decreases_loop
 loop_again c =
-    let a = c.before.before.before.before.before.args in
-    let l = c.before.before.before.before.loop in
-    let d = c.before.degree.ensures.0 ∙ ap (degree l.v) (all_alive a.m a.table (omega arith) (omega arith)) in
-    crowding_turn l.invariant c.before.before.before.loop-test.true (omega arith)
+    let a = c.args in
+    let l = c.loop-v in
+    let d = c.degree.ensures.0 ∙ ap (degree l.v) (all_alive a.m a.table (omega arith) (omega arith)) in
+    crowding_turn l.invariant c.loop-v-test.true (omega arith)
 
-returns_2 : tie.Need-returns-2 invariant_loop decreases_loop
-returns_2 c = crowding_end c.before.loop.invariant c.loop-test.false
+returns_2 : tie.Need-returns invariant_loop decreases_loop
+returns_2 c = crowding_end c.loop-v.invariant c.loop-v-test.false
 
 pub crowded_spec : {M : Type 1} → statement M
 crowded_spec =

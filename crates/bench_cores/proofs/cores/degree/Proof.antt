@@ -5,21 +5,21 @@ use Rattle.bench_cores.proofs.Counting.{Degrees, degrees_begin, degrees_turn, de
 use Rattle.bench_cores.proofs.cores.degree.Statement.{statement}
 use Rattle.bench_cores.proofs.cores.degree.Tie as tie
 
-abbrev invariant_loop : tie.invariant-loop
+abbrev invariant_loop : tie.invariant-loop-i
 invariant_loop m alive v table d₀ i₀ d i = Degrees m v alive table i d
 
-abbrev decreases_loop : tie.decreases-loop
+abbrev decreases_loop : tie.decreases-loop-i
 decreases_loop m alive v table d₀ i₀ d i = m - i
 
-add_d : tie.Need-overflow-add-d invariant_loop decreases_loop
-add_d c = let w = c.before.before.before.before.loop.invariant.most in search rules
+add_d : tie.Need-overflow_add-d invariant_loop decreases_loop
+add_d c = let w = c.loop-i.invariant.most in search rules
 
-loop_again : tie.Need-loop-preserved invariant_loop decreases_loop
+loop_again : tie.Need-loop-i-preserved invariant_loop decreases_loop
 loop_again c =
-    degrees_turn c.before.before.before.before.loop.invariant c.before.before.before.loop-test.true (omega arith) (omega arith) c.counts.ensures.0
+    degrees_turn c.loop-i.invariant c.loop-i-test.true (omega arith) (omega arith) c.counts-d.ensures.0
 
 returns : tie.Need-returns invariant_loop decreases_loop
-returns c = degrees_end c.before.loop.invariant c.loop-test.false (omega arith)
+returns c = degrees_end c.loop-i.invariant c.loop-i-test.false (omega arith)
 
 pub degree_spec : {M : Type 1} → statement M
 degree_spec =

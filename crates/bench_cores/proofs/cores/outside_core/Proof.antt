@@ -5,24 +5,24 @@ use Rattle.bench_cores.proofs.Stripping.{Rounds, rounds_begin, rounds_turn, roun
 use Rattle.bench_cores.proofs.cores.outside_core.Statement.{statement}
 use Rattle.bench_cores.proofs.cores.outside_core.Tie as tie
 
-abbrev invariant_loop : tie.invariant-loop
+abbrev invariant_loop : tie.invariant-loop-round
 invariant_loop table m alive₀ outside₀ round₀ alive outside round = Rounds m table round outside alive
 
-abbrev decreases_loop : tie.decreases-loop
+abbrev decreases_loop : tie.decreases-loop-round
 decreases_loop table m alive₀ outside₀ round₀ alive outside round = m - round
 
-returns : tie.Need-returns invariant_loop decreases_loop
+returns : tie.Need-returns-then-gone-eq0 invariant_loop decreases_loop
 returns c =
-    let e = c.before.strip.ensures in
-    rounds_stop c.before.before.before.before.loop.invariant (omega arith) (omega arith) e.1 e.2 c.if1.true
+    let e = c.strip-gone.ensures in
+    rounds_stop c.loop-round.invariant (omega arith) (omega arith) e.1 e.2 c.if-gone-eq0.true
 
-loop_again : tie.Need-loop-preserved invariant_loop decreases_loop
+loop_again : tie.Need-loop-round-preserved invariant_loop decreases_loop
 loop_again c =
-    let e = c.before.strip.ensures in
-    rounds_turn c.before.before.before.before.loop.invariant c.before.before.before.loop-test.true e.1 e.2 c.if1.false
+    let e = c.strip-gone.ensures in
+    rounds_turn c.loop-round.invariant c.loop-round-test.true e.1 e.2 c.if-gone-eq0.false
 
-returns_2 : tie.Need-returns-2 invariant_loop decreases_loop
-returns_2 c = rounds_end c.before.loop.invariant c.loop-test.false (omega arith) (omega arith)
+returns_2 : tie.Need-returns invariant_loop decreases_loop
+returns_2 c = rounds_end c.loop-round.invariant c.loop-round-test.false (omega arith) (omega arith)
 
 pub outside_core_spec : {M : Type 1} → statement M
 outside_core_spec =

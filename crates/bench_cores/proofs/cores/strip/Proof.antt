@@ -5,28 +5,28 @@ use Rattle.bench_cores.proofs.Stripping.{one_strip_most, Stripping, stripping_be
 use Rattle.bench_cores.proofs.cores.strip.Statement.{statement}
 use Rattle.bench_cores.proofs.cores.strip.Tie as tie
 
-abbrev invariant_loop : tie.invariant-loop
+abbrev invariant_loop : tie.invariant-loop-i
 invariant_loop table m alive₀ gone₀ i₀ alive gone i = Stripping m table alive₀ i alive gone
 
-abbrev decreases_loop : tie.decreases-loop
+abbrev decreases_loop : tie.decreases-loop-i
 decreases_loop table m alive₀ gone₀ i₀ alive gone i = m - i
 
-add_gone : tie.Need-overflow-add-gone invariant_loop decreases_loop
-add_gone c = let r = one_strip_most c.strip-one.ensures in search rules
+add_gone : tie.Need-overflow_add-gone invariant_loop decreases_loop
+add_gone c = let r = one_strip_most c.strip_one-gone.ensures in search rules
 
-loop_again : tie.Need-loop-preserved invariant_loop decreases_loop
+loop_again : tie.Need-loop-i-preserved invariant_loop decreases_loop
 loop_again c =
-    let w = c.before.before.before.loop.invariant in
+    let w = c.loop-i.invariant in
     let l = w.long in
-    stripping_turn w c.before.before.loop-test.true (omega arith) (omega arith) c.strip-one.ensures
+    stripping_turn w c.loop-i-test.true (omega arith) (omega arith) c.strip_one-gone.ensures
 
 returns : tie.Need-returns invariant_loop decreases_loop
 returns c =
-    let w = c.before.loop.invariant in
+    let w = c.loop-i.invariant in
     let f = w.few in
     let d = w.done in
     let l = w.long in
-    (omega arith, omega arith, stripping_end w c.loop-test.false (omega arith))
+    (omega arith, omega arith, stripping_end w c.loop-i-test.false (omega arith))
 
 pub strip_spec : {M : Type 1} → statement M
 strip_spec =

@@ -4,14 +4,14 @@ use Rattle.bench_cores.specs.Counted.{dead, stays, goes}
 use Rattle.bench_cores.proofs.cores.strip_one.Statement.{statement}
 use Rattle.bench_cores.proofs.cores.strip_one.Tie as tie
 
-returns : tie.Need-returns
-returns c = dead c.if1.true
+returns : tie.Need-returns-then-alive-i-eq0
+returns c = dead c.if-alive-i-eq0.true
 
-returns_2 : tie.Need-returns-2
-returns_2 c = goes c.before.before.before.before.if1.false (sym c.before.hangs.ensures ∙ c.if2.true)
+returns_2 : tie.Need-returns-then-hangs
+returns_2 c = goes c.if-alive-i-eq0.false (sym c.hangs.ensures ∙ c.if-hangs.true)
 
-returns_3 : tie.Need-returns-3
-returns_3 c = stays (sym c.before.hangs.ensures ∙ c.if2.false)
+returns_3 : tie.Need-returns
+returns_3 c = stays (sym c.hangs.ensures ∙ c.if-hangs.false)
 
 pub strip_one_spec : {M : Type 1} → statement M
 strip_one_spec =

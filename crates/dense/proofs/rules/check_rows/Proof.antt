@@ -8,10 +8,10 @@ use Rattle.dense.proofs.RowRules.{Checking, checking_begin, checking_row, checki
 use Rattle.dense.proofs.rules.check_rows.Statement.{statement}
 use Rattle.dense.proofs.rules.check_rows.Tie as tie
 
-abbrev invariant_loop : tie.invariant-loop
+abbrev invariant_loop : tie.invariant-loop-i
 invariant_loop n m w rows i₀ i = Checking n m w rows i
 
-abbrev decreases_loop : tie.decreases-loop
+abbrev decreases_loop : tie.decreases-loop-i
 decreases_loop n m w rows i₀ i = m - i
 
 pub check_rows_spec : {M : Type 1} → statement M
@@ -21,10 +21,10 @@ check_rows_spec =
     invariant_loop
     decreases_loop
     (λ c. search (rules, checking_begin))  -- loop-holds
-    (λ c. let h = checking_row c.before.loop.invariant c.loop-test.true in search rules)  -- mul-row-fits
-    (λ c κs. checking_row c.before.loop.invariant c.loop-test.true)  -- row-fits-requires
-    (λ c. checking_found c.before.before.before.loop.invariant c.before.before.loop-test.true (sym c.before.row_fits.ensures ∙ not-true _ c.if1.true))  -- returns
+    (λ c. let h = checking_row c.loop-i.invariant c.loop-i-test.true in search rules)  -- mul-row-fits
+    (λ c κs. checking_row c.loop-i.invariant c.loop-i-test.true)  -- row-fits-requires
+    (λ c. checking_found c.loop-i.invariant c.loop-i-test.true (sym c.row_fits.ensures ∙ c.if-not-row_fits.true))  -- returns
     (λ c. search rules)  -- add-i
     (λ c. search rules)  -- loop-less
-    (λ c. checking_turn c.before.before.before.loop.invariant c.before.before.loop-test.true (sym c.before.row_fits.ensures ∙ not-false _ c.if1.false))  -- loop-again
+    (λ c. checking_turn c.loop-i.invariant c.loop-i-test.true (sym c.row_fits.ensures ∙ c.if-not-row_fits.false))  -- loop-again
     (λ c. search (rules, checking_end)))

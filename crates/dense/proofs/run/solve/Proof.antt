@@ -13,13 +13,13 @@ lent : (s : tie.Start) → DenseFits s.args.n s.args.m s.args.w s.args.rows.now 
 lent s = dense_kept_sound s.args.n s.args.m s.args.w s.args.rows.now s.args.constants.now s.requires.0
 
 -- a constant was left
-returns : tie.Need-returns
+returns : tie.Need-returns-then-constant_left
 returns c =
-    let s = c.before.before.before.before.before.before.before.before.before.before.before.before.before.before.before.before.before.before.before.before.before.before.before.before.before.before in
-    let l = c.before.before.before.before.before.before.before.before.before.before.before.before.before.before.before.before.before.before.before.load.ensures in
-    let e = c.before.before.before.before.before.before.before.before.before.before.before.before.before.before.eliminate.ensures in
-    let r = c.before.before.before.before.clear-Room.ensures in
-    rw (run_refused s.args.rows.now s.args.constants.now s.requires.0 l e (sym c.before.before.before.before.before.before.before.before.constant-left.ensures ∙ c.before.before.before.before.before.before.before.if1.true)) (
+    let s = c in
+    let l = c.load.ensures in
+    let e = c.eliminate-rank.ensures in
+    let r = c.clear_room.ensures in
+    rw (run_refused s.args.rows.now s.args.constants.now s.requires.0 l e (sym c.constant_left.ensures ∙ c.if-constant_left.true)) (
       refl,
       (
         refl,
@@ -30,26 +30,26 @@ returns c =
       ),
     )
 
-back_substitution_requires : tie.Need-back-substitution-requires
+back_substitution_requires : tie.Need-back_substitution-requires
 back_substitution_requires c κs =
-    let s = c.before.before.before.before.before.before.before.before.before.before.before.before.before.before.before.before.before.before.before.before.before.before.before.before.before.before in
-    let a = lent s in
-    let l = c.before.before.before.before.before.before.before.before.before.before.before.before.before.before.before.before.before.before.before.load.ensures in
-    let e = c.before.before.before.before.before.before.before.before.before.before.before.before.before.before.eliminate.ensures in
-    let z = zeroed_length s.args.n s.args.solution.now _ s.requires.1 c.before.before.before.before.before.zero-words.ensures in
+    let s = c in
+    let a = lent s.before.before.before.before.before.before.before.before.before.before.before.before.before.before.before.before.before.before.before.before.before.before.before in
+    let l = c.load.ensures in
+    let e = c.eliminate-rank.ensures in
+    let z = zeroed_length s.args.n s.args.solution.now _ s.requires.1 c.zero_words.ensures in
     (e.ranked, omega (arith, e, s.requires), a.few_words, omega (arith, e, l, s.requires), rw z (run_ready s.args.rows.now s.args.constants.now s.requires.0 l e))
 
 -- none was left
-returns_2 : tie.Need-returns-2
+returns_2 : tie.Need-returns
 returns_2 c =
-    let s = c.before.before.before.before.before.before.before.before.before.before.before.before.before.before.before.before.before.before.before.before.before.before.before.before.before.before.before.before.before.before.before.before.before.before.before.before in
-    let l = c.before.before.before.before.before.before.before.before.before.before.before.before.before.before.before.before.before.before.before.before.before.before.before.before.before.before.before.before.before.load.ensures in
-    let e = c.before.before.before.before.before.before.before.before.before.before.before.before.before.before.before.before.before.before.before.before.before.before.before.before.eliminate.ensures in
-    let r = c.before.before.before.before.clear-room2.ensures in
-    rw (run_solved s.args.rows.now s.args.constants.now s.requires.0 l e (sym c.before.before.before.before.before.before.before.before.before.before.before.before.before.before.before.before.before.before.constant-left.ensures ∙ c.before.before.before.before.before.before.before.before.before.before.before.before.before.before.before.before.before.if1.false)) (
+    let s = c in
+    let l = c.load.ensures in
+    let e = c.eliminate-rank.ensures in
+    let r = c.clear_room-2.ensures in
+    rw (run_solved s.args.rows.now s.args.constants.now s.requires.0 l e (sym c.constant_left.ensures ∙ c.if-constant_left.false)) (
       refl,
       (
-        filled s.args.n _ _ s.args.solution.now _ _ s.requires.1 c.before.before.before.before.before.before.before.before.before.before.before.before.before.before.before.zero-words.ensures c.before.before.before.before.before.before.before.before.before.back-substitution.ensures,
+        filled s.args.n _ _ s.args.solution.now _ _ s.requires.1 c.zero_words.ensures c.back_substitution.ensures,
         (
           r.0 ∙ run_numbers s.args.rows.now s.args.constants.now s.requires.0 l e,
           r.1 ∙ run_words s.args.rows.now s.args.constants.now s.requires.0 l e,

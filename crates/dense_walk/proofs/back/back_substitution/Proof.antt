@@ -7,10 +7,10 @@ use Rattle.dense_walk.proofs.Backing.{Backing, backing_begin, backing_pivot, bac
 use Rattle.dense_walk.proofs.back.back_substitution.Statement.{statement}
 use Rattle.dense_walk.proofs.back.back_substitution.Tie as tie
 
-abbrev invariant_loop : tie.invariant-loop
+abbrev invariant_loop : tie.invariant-loop-i
 invariant_loop words m w numbers rank solution₀ i₀ solution i = Backing words m w numbers rank solution₀ i solution
 
-abbrev decreases_loop : tie.decreases-loop
+abbrev decreases_loop : tie.decreases-loop-i
 decreases_loop words m w numbers rank solution₀ i₀ solution i = i
 
 pub back_substitution_spec : {M : Type 1} → statement M
@@ -23,16 +23,16 @@ back_substitution_spec =
     (λ c. search rules)  -- sub-i
     (λ c. search rules)  -- mul-pivot
     (λ c. search rules)  -- shared-slice-read-pivot
-    (λ c. omega (arith, c.shared-slice-known3.given (c.before.before.loop.i - 1)))  -- cast-pivot
-    (λ c. let l = c.before.before in let e : l.loop.i - 1 + 1 ≡ l.loop.i = omega arith in let h = backing_constant l.loop.invariant (l.loop.i - 1) e in search rules)  -- mul-solution
-    (λ c. let l = c.before.before in let e : l.loop.i - 1 + 1 ≡ l.loop.i = omega arith in let h = backing_constant l.loop.invariant (l.loop.i - 1) e in search rules)  -- add-solution
-    (λ c. let l = c.before.before in let e : l.loop.i - 1 + 1 ≡ l.loop.i = omega arith in let h = backing_constant l.loop.invariant (l.loop.i - 1) e in search rules)  -- mul-solution-2
-    (λ c. let l = c.before.before.before in let e : l.loop.i - 1 + 1 ≡ l.loop.i = omega arith in let h = backing_constant l.loop.invariant (l.loop.i - 1) e in search rules)  -- shared-slice-read-solution
-    (λ c. let l = c.before.before.before in let e : l.loop.i - 1 + 1 ≡ l.loop.i = omega arith in let h = backing_row l.loop.invariant (l.loop.i - 1) e in search rules)  -- mul-row-value
-    (λ c κs. let l = c.before.before.before.before in let e : l.loop.i - 1 + 1 ≡ l.loop.i = omega arith in let j = l.loop.i - 1 in (backing_word l.loop.invariant j e, search rules, backing_row l.loop.invariant j e, backing_listed l.loop.invariant j e))  -- row-value-requires
-    (λ c. let l = c.before.before.before.before.before in let e : l.loop.i - 1 + 1 ≡ l.loop.i = omega arith in let h = backing_pivot l.loop.invariant (l.loop.i - 1) e in search rules)  -- mul-solution-3
-    (λ c. let l = c.before.before.before.before.before in let e : l.loop.i - 1 + 1 ≡ l.loop.i = omega arith in let h = backing_pivot l.loop.invariant (l.loop.i - 1) e in search rules)  -- slice-write-solution
+    (λ c. omega (arith, c.shared_slice_known-in-loop-i-1.given (c.loop-i.i - 1)))  -- cast-pivot
+    (λ c. let l = c in let e : l.loop-i.i - 1 + 1 ≡ l.loop-i.i = omega arith in let h = backing_constant l.loop-i.invariant (l.loop-i.i - 1) e in search rules)  -- mul-solution
+    (λ c. let l = c in let e : l.loop-i.i - 1 + 1 ≡ l.loop-i.i = omega arith in let h = backing_constant l.loop-i.invariant (l.loop-i.i - 1) e in search rules)  -- add-solution
+    (λ c. let l = c in let e : l.loop-i.i - 1 + 1 ≡ l.loop-i.i = omega arith in let h = backing_constant l.loop-i.invariant (l.loop-i.i - 1) e in search rules)  -- mul-solution-2
+    (λ c. let l = c in let e : l.loop-i.i - 1 + 1 ≡ l.loop-i.i = omega arith in let h = backing_constant l.loop-i.invariant (l.loop-i.i - 1) e in search rules)  -- shared-slice-read-solution
+    (λ c. let l = c in let e : l.loop-i.i - 1 + 1 ≡ l.loop-i.i = omega arith in let h = backing_row l.loop-i.invariant (l.loop-i.i - 1) e in search rules)  -- mul-row-value
+    (λ c κs. let l = c in let e : l.loop-i.i - 1 + 1 ≡ l.loop-i.i = omega arith in let j = l.loop-i.i - 1 in (backing_word l.loop-i.invariant j e, search rules, backing_row l.loop-i.invariant j e, backing_listed l.loop-i.invariant j e))  -- row-value-requires
+    (λ c. let l = c in let e : l.loop-i.i - 1 + 1 ≡ l.loop-i.i = omega arith in let h = backing_pivot l.loop-i.invariant (l.loop-i.i - 1) e in search rules)  -- mul-solution-3
+    (λ c. let l = c in let e : l.loop-i.i - 1 + 1 ≡ l.loop-i.i = omega arith in let h = backing_pivot l.loop-i.invariant (l.loop-i.i - 1) e in search rules)  -- slice-write-solution
     (λ c. search rules)  -- loop-less
-    (λ c. let l = c.before.before.before.before.before in let e : l.loop.i - 1 + 1 ≡ l.loop.i = omega arith in backing_turn l.loop.invariant (l.loop.i - 1) e c.row-value.ensures)  -- loop-again
+    (λ c. let l = c in let e : l.loop-i.i - 1 + 1 ≡ l.loop-i.i = omega arith in backing_turn l.loop-i.invariant (l.loop-i.i - 1) e c.row_value.ensures)  -- loop-again
     (λ c. search rules)  -- same-length
     (λ c. search (rules, backing_end)))

@@ -6,10 +6,10 @@ use Rattle.dense_walk.proofs.Walking.{Leaving, leaving_begin, leaving_found, lea
 use Rattle.dense_walk.proofs.walk.constant_left.Statement.{statement}
 use Rattle.dense_walk.proofs.walk.constant_left.Tie as tie
 
-abbrev invariant_loop : tie.invariant-loop
+abbrev invariant_loop : tie.invariant-loop-i
 invariant_loop words m w rank i₀ i = Leaving words m w rank i
 
-abbrev decreases_loop : tie.decreases-loop
+abbrev decreases_loop : tie.decreases-loop-i
 decreases_loop words m w rank i₀ i = m - i
 
 pub constant_left_spec : {M : Type 1} → statement M

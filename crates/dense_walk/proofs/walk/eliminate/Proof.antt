@@ -9,23 +9,23 @@ use Rattle.dense_walk.proofs.Walking.{Walking, walking_begin, walking_place, wal
 use Rattle.dense_walk.proofs.walk.eliminate.Statement.{statement}
 use Rattle.dense_walk.proofs.walk.eliminate.Tie as tie
 
-abbrev invariant_loop : tie.invariant-loop
+abbrev invariant_loop : tie.invariant-loop-col
 invariant_loop n m w numbers₀ words₀ rank₀ col₀ numbers words rank col = Walking n m w numbers₀ words₀ rank col numbers words
 
-abbrev decreases_loop : tie.decreases-loop
+abbrev decreases_loop : tie.decreases-loop-col
 decreases_loop n m w numbers₀ words₀ rank₀ col₀ numbers words rank col = n - col
 
 -- what the search answered, by the arm that was taken
-take_pivot_requires : tie.Need-take-pivot-requires invariant_loop decreases_loop
+take_pivot_requires : tie.Need-take_pivot-requires invariant_loop decreases_loop
 take_pivot_requires c κs =
-    let l = c.before.before.before.before.before.before.before.before in
-    let h = walking_place l.loop.invariant (sym c.before.before.pivot.given.1 ∙ c.before.before.before.before.find-pivot.ensures) in
+    let l = c in
+    let h = walking_place l.loop-col.invariant (sym c.in-At.is ∙ c.find_pivot.ensures) in
     search rules
 
-loop_again_2 : tie.Need-loop-preserved-2 invariant_loop decreases_loop
+loop_again_2 : tie.Need-loop-col-preserved invariant_loop decreases_loop
 loop_again_2 c =
-    walking_turn c.before.before.before.before.before.before.before.before.before.before.before.loop.invariant c.before.before.before.before.before.before.before.before.before.before.loop-test.true c.before.before.before.before.before.before.before.before.before.if1.false (sym c.before.before.before.before.before.pivot.given.1 ∙ c.before.before.before.before.before.before.before.find-pivot.ensures)
-    c.before.before.take-pivot.ensures
+    walking_turn c.loop-col.invariant c.loop-col-test.true c.if-rank-m.false (sym c.in-At.is ∙ c.find_pivot.ensures)
+    c.take_pivot.ensures
 
 pub eliminate_spec : {M : Type 1} → statement M
 eliminate_spec =
@@ -39,7 +39,7 @@ eliminate_spec =
     (λ c. search rules)  -- enum_told
     (λ c. search rules)  -- add-col
     (λ c. search rules)  -- loop-less
-    (λ c. walking_skip c.before.before.before.before.before.before.loop.invariant c.before.before.before.before.before.loop-test.true c.before.before.before.before.if1.false (sym c.enum_told.given.1 ∙ c.before.before.find-pivot.ensures))  -- loop-again
+    (λ c. walking_skip c.loop-col.invariant c.loop-col-test.true c.if-rank-m.false (sym c.in_default.is ∙ c.find_pivot.ensures))  -- loop-again
     take_pivot_requires
     (λ c. search rules)  -- cast-numbers
     (λ c. search rules)  -- mul-numbers
@@ -50,7 +50,7 @@ eliminate_spec =
     loop_again_2
     (λ c. search rules)  -- same-length
     (λ c. search rules)  -- same-length-2
-    (λ c. walking_end c.before.loop.invariant (inl c.loop-test.false))  -- returns
+    (λ c. walking_end c.loop-col.invariant (inl c.loop-col-test.false))  -- returns
     (λ c. search rules)  -- same-length-3
     (λ c. search rules)  -- same-length-4
-    (λ c. walking_end c.before.before.loop.invariant (inr c.if1.true)))
+    (λ c. walking_end c.loop-col.invariant (inr c.if-rank-m.true)))

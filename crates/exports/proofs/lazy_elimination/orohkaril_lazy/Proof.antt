@@ -6,7 +6,7 @@ use Rattle.exports.proofs.lazy_elimination.orohkaril_lazy.Tie as tie
 
 returns : tie.Need-returns
 returns c =
-    let e = c.before.before.before.before.before.before.before.before.lazy-gaussian-elimination.ensures in
+    let e = c.lazy_gaussian_elimination-built.ensures in
     (told_on e.0 c.tell.ensures.0 c.tell.ensures.1, e.1)
 
 pub orohkaril_lazy_spec : {M : Type 1} → statement M

@@ -6,7 +6,7 @@ use Rattle.exports.proofs.slow_elimination.orohkaril_slow.Tie as tie
 
 returns : tie.Need-returns
 returns c =
-    let e = c.before.before.before.before.before.before.before.before.slow-gaussian-elimination.ensures in
+    let e = c.slow_gaussian_elimination-answer.ensures in
     told_on e c.tell.ensures.0 c.tell.ensures.1
 
 pub orohkaril_slow_spec : {M : Type 1} → statement M

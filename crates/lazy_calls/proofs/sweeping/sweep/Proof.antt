@@ -5,17 +5,17 @@ use borrow.Author.Rules.{rules}
 use Rattle.lazy_calls.proofs.sweeping.sweep.Statement.{statement}
 use Rattle.lazy_calls.proofs.sweeping.sweep.Tie as tie
 
-empty_rows_requires : tie.Need-empty-rows-requires
-empty_rows_requires c κs = c.before.before.requires.equations
+empty_rows_requires : tie.Need-empty_rows-requires
+empty_rows_requires c κs = c.requires.equations
 
-add_empty_rows : tie.Need-overflow-add-empty-rows
-add_empty_rows c = let h = dense_here c.before.before.before.before.before.before.before.before.before.before.requires c.before.before.before.before.before.before.before.empty-rows.ensures c.before.before.before.zero-numbers.ensures in omega arith
+add_empty_rows : tie.Need-overflow_add-end-2
+add_empty_rows c = let h = dense_here c.requires c.empty_rows.ensures c.zero_numbers.ensures in omega arith
 
-empty_rows_requires_2 : tie.Need-empty-rows-requires-2
-empty_rows_requires_2 c κs = dense_here c.before.before.before.before.before.before.before.before.before.before.requires c.before.before.before.before.before.before.before.empty-rows.ensures c.before.before.before.zero-numbers.ensures
+empty_rows_requires_2 : tie.Need-empty_rows-requires-2
+empty_rows_requires_2 c κs = dense_here c.requires c.empty_rows.ensures c.zero_numbers.ensures
 
 returns : tie.Need-returns
-returns c = swept_all c.before.before.before.before.before.before.before.before.before.before.before.before.before.before.before.before.before.requires c.before.before.before.before.before.before.before.before.before.before.before.before.before.before.empty-rows.ensures c.before.before.before.before.before.before.before.before.before.before.zero-numbers.ensures c.before.before.before.before.before.before.empty-rows2.ensures c.before.before.zero-numbers2.ensures
+returns c = swept_all c.requires c.empty_rows.ensures c.zero_numbers.ensures c.empty_rows-2.ensures c.zero_numbers-2.ensures
 
 pub sweep_spec : {M : Type 1} → statement M
 sweep_spec =

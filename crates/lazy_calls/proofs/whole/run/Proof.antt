@@ -7,35 +7,35 @@ use borrow.Author.Rules.{rules}
 use Rattle.lazy_calls.proofs.whole.run.Statement.{statement}
 use Rattle.lazy_calls.proofs.whole.run.Tie as tie
 
-lazy_numbers_requires : tie.Need-lazy-numbers-requires
-lazy_numbers_requires c κs = let f = c.before.before.before.before.before.before.requires.0 in (f.few_variables, f.few_equations, f.few_listed)
+lazy_numbers_requires : tie.Need-lazy_numbers-kn-requires
+lazy_numbers_requires c κs = let f = c.requires.0 in (f.few_variables, f.few_equations, f.few_listed)
 
-lazy_words_requires : tie.Need-lazy-words-requires
-lazy_words_requires c κs = c.before.before.before.before.before.before.before.requires.0.few_equations
+lazy_words_requires : tie.Need-lazy_words-kw-requires
+lazy_words_requires c κs = c.requires.0.few_equations
 
-slice_relend_prefix_build : tie.Need-slice-relend-prefix-build
-slice_relend_prefix_build c = let p = c.before.before.before.before.before.before.before.before.before.requires in let e = c.before.before.lazy-numbers.ensures in omega (arith, p.2)
+slice_relend_prefix_build : tie.Need-slice_bounds-build-end
+slice_relend_prefix_build c = let p = c.requires in let e = c.lazy_numbers-kn.ensures in omega (arith, p.2)
 
-slice_aggregate_build : tie.Need-slice-aggregate-build
-slice_aggregate_build c = let p = c.before.before.before.before.before.before.before.before.before.before.requires in let e = c.before.before.before.lazy-numbers.ensures in sym (length-take-le _ _ (omega (arith, p.2)))
+slice_aggregate_build : tie.Need-slice_bounds-build-end-2
+slice_aggregate_build c = let p = c.requires in let e = c.lazy_numbers-kn.ensures in sym (length-take-le _ _ (omega (arith, p.2)))
 
-slice_relend_prefix_build_2 : tie.Need-slice-relend-prefix-build-2
-slice_relend_prefix_build_2 c = let p = c.before.before.before.before.before.before.before.before.before.before.requires in let e = c.before.before.lazy-words.ensures in omega (arith, p.3)
+slice_relend_prefix_build_2 : tie.Need-slice_bounds-build-end-3
+slice_relend_prefix_build_2 c = let p = c.requires in let e = c.lazy_words-kw.ensures in omega (arith, p.3)
 
-slice_aggregate_build_2 : tie.Need-slice-aggregate-build-2
-slice_aggregate_build_2 c = let p = c.before.before.before.before.before.before.before.before.before.before.before.requires in let e = c.before.before.before.lazy-words.ensures in sym (length-take-le _ _ (omega (arith, p.3)))
+slice_aggregate_build_2 : tie.Need-slice_bounds-build-end-4
+slice_aggregate_build_2 c = let p = c.requires in let e = c.lazy_words-kw.ensures in sym (length-take-le _ _ (omega (arith, p.3)))
 
 build_requires : tie.Need-build-requires
 build_requires c κs =
-    let p = c.before.before.before.before.before.before.before.before.before.before.before.requires in let e = c.before.before.before.before.lazy-numbers.ensures in let w = c.before.before.before.lazy-words.ensures in
+    let p = c.requires in let e = c.lazy_numbers-kn.ensures in let w = c.lazy_words-kw.ensures in
     (p.0, p.1, length-take-le _ _ (omega (arith, p.2)) ∙ e, length-take-le _ _ (omega (arith, p.3)) ∙ w)
 
 returns : tie.Need-returns
 returns c =
-    let s = c.before.before.before.before.before.before.before.before.before.before.before.before.before.before.before.before.before.before in
-    let b = c.before.before.before.before.before.before in
+    let s = c in
+    let b = c in
     let l = b.build.new in let e = b.build.ensures in
-    let q = ends _ _ _ l.1.1.1.1.1.0 _ _ _ _ (room_zero _ _ _ s.args.numbers.now b.before.before.before.before.before.lazy-numbers.ensures s.requires.2 e.1.0) (room_zero _ _ _ s.args.words.now b.before.before.before.before.lazy-words.ensures s.requires.3 e.1.1.0)
+    let q = ends _ _ _ l.solution _ _ _ _ (room_zero _ _ _ s.args.numbers.now b.lazy_numbers-kn.ensures s.requires.2 e.1.0) (room_zero _ _ _ s.args.words.now b.lazy_words-kw.ensures s.requires.3 e.1.1.0)
     (lazy_answer s.args.n s.args.m s.args.starts.now s.args.vars.now s.args.constants.now) _ e.0 in
     (q.0, (q.1.0, (q.1.1.0, (q.1.1.1, e.1.1.1))))
 

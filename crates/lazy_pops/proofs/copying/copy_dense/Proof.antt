@@ -5,62 +5,62 @@ use native.Mathlib.Omega.{arith}
 use Rattle.lazy_pops.proofs.copying.copy_dense.Statement.{statement}
 use Rattle.lazy_pops.proofs.copying.copy_dense.Tie as tie
 
-mul_copy_within_numbers : tie.Need-overflow-mul-copy-within-numbers
-mul_copy_within_numbers c = let b = copy_cells c.before.before.before.requires.at in omega arith
+mul_copy_within_numbers : tie.Need-overflow_mul-e
+mul_copy_within_numbers c = let b = copy_cells c.requires.at in omega arith
 
-mul_copy_within_numbers_2 : tie.Need-overflow-mul-copy-within-numbers-2
-mul_copy_within_numbers_2 c = let b = copy_cells c.before.before.before.requires.at in omega arith
+mul_copy_within_numbers_2 : tie.Need-overflow_mul-d
+mul_copy_within_numbers_2 c = let b = copy_cells c.requires.at in omega arith
 
-add_copy_within_numbers : tie.Need-overflow-add-copy-within-numbers
-add_copy_within_numbers c = let b = copy_cells c.before.before.before.requires.at in omega arith
+add_copy_within_numbers : tie.Need-overflow_add-dense
+add_copy_within_numbers c = let b = copy_cells c.requires.at in omega arith
 
-copy_within_numbers_requires : tie.Need-copy-within-numbers-requires
-copy_within_numbers_requires c κs = let b = copy_cells c.before.before.before.requires.at in (omega arith, omega arith, inl (omega arith))
+copy_within_numbers_requires : tie.Need-copy_within_numbers-requires
+copy_within_numbers_requires c κs = let b = copy_cells c.requires.at in (omega arith, omega arith, inl (omega arith))
 
-cast_numbers : tie.Need-overflow-cast-numbers
-cast_numbers c = let b = copy_cells c.before.before.before.before.before.before.requires.at in omega arith
+cast_numbers : tie.Need-overflow_cast-numbers
+cast_numbers c = let b = copy_cells c.requires.at in omega arith
 
-mul_numbers : tie.Need-overflow-mul-numbers
-mul_numbers c = let b = copy_cells c.before.before.before.before.before.before.requires.at in omega arith
+mul_numbers : tie.Need-overflow_mul-numbers
+mul_numbers c = let b = copy_cells c.requires.at in omega arith
 
-add_numbers : tie.Need-overflow-add-numbers
-add_numbers c = let b = copy_cells c.before.before.before.before.before.before.requires.at in omega arith
+add_numbers : tie.Need-overflow_add-numbers
+add_numbers c = let b = copy_cells c.requires.at in omega arith
 
-add_numbers_2 : tie.Need-overflow-add-numbers-2
-add_numbers_2 c = let b = copy_cells c.before.before.before.before.before.before.requires.at in omega arith
+add_numbers_2 : tie.Need-overflow_add-numbers-2
+add_numbers_2 c = let b = copy_cells c.requires.at in omega arith
 
-add_numbers_3 : tie.Need-overflow-add-numbers-3
-add_numbers_3 c = let b = copy_cells c.before.before.before.before.before.before.requires.at in omega arith
+add_numbers_3 : tie.Need-overflow_add-numbers-3
+add_numbers_3 c = let b = copy_cells c.requires.at in omega arith
 
-mul_numbers_2 : tie.Need-overflow-mul-numbers-2
-mul_numbers_2 c = let b = copy_cells c.before.before.before.before.before.before.requires.at in omega arith
+mul_numbers_2 : tie.Need-offset_bounds-numbers-dense
+mul_numbers_2 c = let b = copy_cells c.requires.at in omega arith
 
-slice_write_numbers : tie.Need-slice-write-numbers
-slice_write_numbers c = let b = copy_cells c.before.before.before.before.before.before.requires.at in let g = c.before.numbers.given in omega arith
+slice_write_numbers : tie.Need-bounds-numbers-dense
+slice_write_numbers c = let b = copy_cells c.requires.at in let g = c.numbers-1.given in omega arith
 
-mul_words : tie.Need-overflow-mul-words
-mul_words c = let b = copy_cells c.before.before.before.before.before.before.requires.at in omega arith
+mul_words : tie.Need-offset_bounds-words-e
+mul_words c = let b = copy_cells c.requires.at in omega arith
 
-slice_read_words : tie.Need-slice-read-words
-slice_read_words c = let b = copy_cells c.before.before.before.before.before.before.before.requires.at in omega arith
+slice_read_words : tie.Need-bounds-words-e
+slice_read_words c = let b = copy_cells c.requires.at in omega arith
 
-add_words : tie.Need-overflow-add-words
-add_words c = let b = copy_cells c.before.before.before.before.before.before.before.requires.at in omega arith
+add_words : tie.Need-overflow_add-words
+add_words c = let b = copy_cells c.requires.at in omega arith
 
-mul_words_2 : tie.Need-overflow-mul-words-2
-mul_words_2 c = let b = copy_cells c.before.before.before.before.before.before.before.requires.at in omega arith
+mul_words_2 : tie.Need-offset_bounds-words-m
+mul_words_2 c = let b = copy_cells c.requires.at in omega arith
 
-slice_write_words : tie.Need-slice-write-words
-slice_write_words c = let b = copy_cells c.before.before.before.before.before.before.before.requires.at in omega arith
+slice_write_words : tie.Need-bounds-words-m
+slice_write_words c = let b = copy_cells c.requires.at in omega arith
 
-same_length : tie.Need-same-length
-same_length c = simp length-set c.before.before.numbers.given
+same_length : tie.Need-shape_of-numbers
+same_length c = simp length-set c.numbers-1.given
 
-same_length_2 : tie.Need-same-length-2
+same_length_2 : tie.Need-shape_of-words
 same_length_2 c = simp length-set
 
 returns : tie.Need-returns
-returns c = λ layout sys s a. rw c.before.before.before.copy-within-numbers.ensures (copy_done a)
+returns c = λ layout sys s a. rw c.copy_within_numbers.ensures (copy_done a)
 
 pub copy_dense_spec : {M : Type 1} → statement M
 copy_dense_spec =

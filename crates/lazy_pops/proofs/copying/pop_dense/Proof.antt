@@ -4,44 +4,44 @@ use native.Mathlib.Omega.{arith}
 use Rattle.lazy_pops.proofs.copying.pop_dense.Statement.{statement}
 use Rattle.lazy_pops.proofs.copying.pop_dense.Tie as tie
 
-add_at : tie.Need-overflow-add-at
-add_at c = let b = equation_cells c.before.before.before.requires.at in omega arith
+add_at : tie.Need-overflow_add-at
+add_at c = let b = equation_cells c.requires.at in omega arith
 
-mul_len : tie.Need-overflow-mul-len
-mul_len c = let b = equation_cells c.before.before.before.requires.at in omega arith
+mul_len : tie.Need-offset_bounds-numbers-at
+mul_len c = let b = equation_cells c.requires.at in omega arith
 
-slice_read_len : tie.Need-slice-read-len
-slice_read_len c = let b = equation_cells c.before.before.before.before.requires.at in omega arith
+slice_read_len : tie.Need-bounds-numbers-at
+slice_read_len c = let b = equation_cells c.requires.at in omega arith
 
-cast_len : tie.Need-overflow-cast-len
-cast_len c = let b = equation_cells c.before.before.before.before.requires.at in omega (arith, c.before.before.before.slice-known.given (c.before.before.before.before.args.layout.lengths + c.before.before.before.before.args.e))
+cast_len : tie.Need-overflow_cast-len
+cast_len c = let b = equation_cells c.requires.at in omega (arith, c.slice_known-1.given (c.args.layout.lengths + c.args.e))
 
-copy_dense_requires : tie.Need-copy-dense-requires
-copy_dense_requires c κs = record { layout = c.before.before.before.before.before.before.before.args.layout; sys = c.before.before.before.before.before.before.before.requires.sys; s = _; at = copy_at c.before.before.before.before.before.before.before.requires.at }
+copy_dense_requires : tie.Need-copy_dense-requires
+copy_dense_requires c κs = record { layout = c.args.layout; sys = c.requires.sys; s = _; at = copy_at c.requires.at }
 
-add_next : tie.Need-overflow-add-next
-add_next c = let b = equation_cells c.before.before.before.before.before.before.before.before.before.before.before.before.requires.at in omega arith
+add_next : tie.Need-overflow_add-next
+add_next c = let b = equation_cells c.requires.at in omega arith
 
-same_length : tie.Need-same-length
-same_length c = c.before.before.before.numbers.given
+same_length : tie.Need-shape_of-numbers-then-len-ne0
+same_length c = c.numbers-1.given
 
-same_length_2 : tie.Need-same-length-2
-same_length_2 c = c.before.words.given
+same_length_2 : tie.Need-shape_of-words-then-len-ne0
+same_length_2 c = c.words-1.given
 
-returns : tie.Need-returns
-returns c = λ sys s es a. pop_copied a c.before.before.before.before.before.before.before.if1.true (c.before.before.before.before.copy-dense.ensures _ sys _ (copy_at a))
+returns : tie.Need-returns-then-len-ne0
+returns c = λ sys s es a. pop_copied a c.if-len-ne0.true (c.copy_dense.ensures _ sys _ (copy_at a))
 
-mul_if2 : tie.Need-overflow-mul-if2
-mul_if2 c = let b = equation_cells c.before.before.before.before.before.requires.at in omega arith
+mul_if2 : tie.Need-offset_bounds-words-e
+mul_if2 c = let b = equation_cells c.requires.at in omega arith
 
-slice_read_if2 : tie.Need-slice-read-if2
-slice_read_if2 c = let b = equation_cells c.before.before.before.before.before.before.requires.at in omega arith
+slice_read_if2 : tie.Need-bounds-words-e
+slice_read_if2 c = let b = equation_cells c.requires.at in omega arith
 
-returns_2 : tie.Need-returns-2
-returns_2 c = λ sys s es a. pop_clash a c.before.before.if1.false c.if2.true
+returns_2 : tie.Need-returns-then-words-e-ne0
+returns_2 c = λ sys s es a. pop_clash a c.if-len-ne0.false c.if-words-e-ne0.true
 
-returns_3 : tie.Need-returns-3
-returns_3 c = λ sys s es a. pop_identity a c.before.before.if1.false c.if2.false
+returns_3 : tie.Need-returns
+returns_3 c = λ sys s es a. pop_identity a c.if-len-ne0.false c.if-words-e-ne0.false
 
 pub pop_dense_spec : {M : Type 1} → statement M
 pop_dense_spec =

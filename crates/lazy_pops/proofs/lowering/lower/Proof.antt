@@ -5,23 +5,23 @@ use borrow.Author.Rules.{rules}
 use Rattle.lazy_pops.proofs.lowering.lower.Statement.{statement}
 use Rattle.lazy_pops.proofs.lowering.lower.Tie as tie
 
-returns : tie.Need-returns
-returns c = simp (eqb_ne _ 2 c.if1.true) (refl, refl)
+returns : tie.Need-returns-then-p-ne2
+returns c = simp (eqb_ne _ 2 c.if-p-ne2.true) (refl, refl)
 
-add_numbers : tie.Need-overflow-add-numbers
-add_numbers c = let h = c.before.before.requires.place c.if1.false in search rules
+add_numbers : tie.Need-overflow_add-numbers
+add_numbers c = let h = c.requires.place c.if-p-ne2.false in search rules
 
-mul_numbers_2 : tie.Need-overflow-mul-numbers-2
-mul_numbers_2 c = let h = c.before.before.requires.place c.if1.false in search rules
+mul_numbers_2 : tie.Need-offset_bounds-numbers-stack
+mul_numbers_2 c = let h = c.requires.place c.if-p-ne2.false in search rules
 
-slice_write_numbers_2 : tie.Need-slice-write-numbers-2
-slice_write_numbers_2 c = let h = c.before.before.requires.place c.if1.false in simp length-set h
+slice_write_numbers_2 : tie.Need-bounds-numbers-stack
+slice_write_numbers_2 c = let h = c.requires.place c.if-p-ne2.false in simp length-set h
 
-add_result : tie.Need-overflow-add-result
-add_result c = let h = c.before.before.requires.place c.if1.false in search rules
+add_result : tie.Need-overflow_add-result
+add_result c = let h = c.requires.place c.if-p-ne2.false in search rules
 
-returns_2 : tie.Need-returns-2
-returns_2 c = simp c.if1.false (refl, refl)
+returns_2 : tie.Need-returns
+returns_2 c = simp c.if-p-ne2.false (refl, refl)
 
 pub lower_spec : {M : Type 1} → statement M
 lower_spec =

@@ -4,34 +4,34 @@ use native.Mathlib.Omega.{arith}
 use Rattle.lazy_pops.proofs.solving.record_solved.Statement.{statement}
 use Rattle.lazy_pops.proofs.solving.record_solved.Tie as tie
 
-add_solved : tie.Need-overflow-add-solved
-add_solved c = let b = solved_cells c.before.requires.at in omega arith
+add_solved : tie.Need-overflow_add-solved
+add_solved c = let b = solved_cells c.requires.at in omega arith
 
-mul_numbers : tie.Need-overflow-mul-numbers
-mul_numbers c = let b = solved_cells c.before.requires.at in omega arith
+mul_numbers : tie.Need-offset_bounds-numbers-solved
+mul_numbers c = let b = solved_cells c.requires.at in omega arith
 
-slice_write_numbers : tie.Need-slice-write-numbers
-slice_write_numbers c = let b = solved_cells c.before.requires.at in omega arith
+slice_write_numbers : tie.Need-bounds-numbers-solved
+slice_write_numbers c = let b = solved_cells c.requires.at in omega arith
 
-add_pivots : tie.Need-overflow-add-pivots
-add_pivots c = let b = solved_cells c.before.before.requires.at in omega arith
+add_pivots : tie.Need-overflow_add-pivots
+add_pivots c = let b = solved_cells c.requires.at in omega arith
 
-mul_numbers_2 : tie.Need-overflow-mul-numbers-2
-mul_numbers_2 c = let b = solved_cells c.before.before.requires.at in omega arith
+mul_numbers_2 : tie.Need-offset_bounds-numbers-pivots
+mul_numbers_2 c = let b = solved_cells c.requires.at in omega arith
 
-slice_write_numbers_2 : tie.Need-slice-write-numbers-2
-slice_write_numbers_2 c = let b = solved_cells c.before.before.requires.at in simp length-set (omega arith)
+slice_write_numbers_2 : tie.Need-bounds-numbers-pivots
+slice_write_numbers_2 c = let b = solved_cells c.requires.at in simp length-set (omega arith)
 
-add_weight : tie.Need-overflow-add-weight
-add_weight c = let b = solved_cells c.before.before.before.requires.at in omega arith
+add_weight : tie.Need-overflow_add-weight
+add_weight c = let b = solved_cells c.requires.at in omega arith
 
-mul_numbers_3 : tie.Need-overflow-mul-numbers-3
-mul_numbers_3 c = let b = solved_cells c.before.before.before.requires.at in omega arith
+mul_numbers_3 : tie.Need-offset_bounds-numbers-weight
+mul_numbers_3 c = let b = solved_cells c.requires.at in omega arith
 
-slice_write_numbers_3 : tie.Need-slice-write-numbers-3
-slice_write_numbers_3 c = let b = solved_cells c.before.before.before.requires.at in simp length-set (omega arith)
+slice_write_numbers_3 : tie.Need-bounds-numbers-weight
+slice_write_numbers_3 c = let b = solved_cells c.requires.at in simp length-set (omega arith)
 
-same_length : tie.Need-same-length
+same_length : tie.Need-shape_of-numbers
 same_length c = simp length-set
 
 returns : tie.Need-returns

@@ -6,58 +6,58 @@ use borrow.Author.Rules.{rules}
 use Rattle.lazy_pops.proofs.solving.solve_for.Statement.{statement}
 use Rattle.lazy_pops.proofs.solving.solve_for.Tie as tie
 
-add_at : tie.Need-overflow-add-at
-add_at c = let b = row_cells c.before.before.before.requires.at in omega arith
+add_at : tie.Need-overflow_add-at
+add_at c = let b = row_cells c.requires.at in omega arith
 
-mul_len : tie.Need-overflow-mul-len
-mul_len c = let b = row_cells c.before.before.before.requires.at in omega arith
+mul_len : tie.Need-offset_bounds-numbers-at
+mul_len c = let b = row_cells c.requires.at in omega arith
 
-slice_read_len : tie.Need-slice-read-len
-slice_read_len c = let b = row_cells c.before.before.before.before.requires.at in omega arith
+slice_read_len : tie.Need-bounds-numbers-at
+slice_read_len c = let b = row_cells c.requires.at in omega arith
 
-cast_len : tie.Need-overflow-cast-len
-cast_len c = let b = row_cells c.before.before.before.before.requires.at in omega (arith, c.before.before.before.slice-known.given (c.before.before.before.before.args.layout.lengths + c.before.before.before.before.args.e))
+cast_len : tie.Need-overflow_cast-len
+cast_len c = let b = row_cells c.requires.at in omega (arith, c.slice_known-1.given (c.args.layout.lengths + c.args.e))
 
-mul_first_idle : tie.Need-overflow-mul-first-idle
-mul_first_idle c = let b = row_cells c.before.before.before.before.before.requires.at in omega arith
+mul_first_idle : tie.Need-overflow_mul-e
+mul_first_idle c = let b = row_cells c.requires.at in omega arith
 
-first_idle_requires : tie.Need-first-idle-requires
-first_idle_requires c κs = row_fits c.before.before.before.before.before.requires.at
+first_idle_requires : tie.Need-first_idle-v-requires
+first_idle_requires c κs = row_fits c.requires.at
 
-record_solved_requires : tie.Need-record-solved-requires
-record_solved_requires c κs = record { n = c.before.before.before.before.before.before.before.args.n; m = c.before.before.before.before.before.before.before.args.m; sys = c.before.before.before.before.before.before.before.requires.sys; s = _; at = solved_at c.before.before.before.before.before.before.before.requires.at c.before.first-idle.ensures }
+record_solved_requires : tie.Need-record_solved-requires
+record_solved_requires c κs = record { n = c.args.n; m = c.args.m; sys = c.requires.sys; s = _; at = solved_at c.requires.at c.first_idle-v.ensures }
 
-add_to_others_requires : tie.Need-add-to-others-requires
+add_to_others_requires : tie.Need-add_to_others-cancelled-requires
 add_to_others_requires c κs =
-    let w = c.before.before.before.before.before.before.before.before.before.before.before.before.requires in
-    let q = c.before.before.before.before.before.before.first-idle.ensures in
-    record { sys = w.sys; s = _; at = others_at w.at q (c.before.before.before.before.record-solved.ensures _ _ w.sys _ (solved_at w.at q)) }
+    let w = c.requires in
+    let q = c.first_idle-v.ensures in
+    record { sys = w.sys; s = _; at = others_at w.at q (c.record_solved.ensures _ _ w.sys _ (solved_at w.at q)) }
 
-add_next : tie.Need-overflow-add-next
-add_next c = let b = row_cells c.before.before.before.before.before.before.before.before.before.before.before.before.before.before.before.before.before.before.requires.at in omega arith
+add_next : tie.Need-overflow_add-next
+add_next c = let b = row_cells c.requires.at in omega arith
 
-lower_listed_requires : tie.Need-lower-listed-requires
+lower_listed_requires : tie.Need-lower_listed-requires
 lower_listed_requires c κs =
-    let w = c.before.before.before.before.before.before.before.before.before.before.before.before.before.before.before.before.before.before.before.requires in
-    let q = c.before.before.before.before.before.before.before.before.before.before.before.before.before.first-idle.ensures in
-    let o = c.before.before.before.before.before.before.add-to-others.ensures.0 w.sys _ (others_at w.at q (c.before.before.before.before.before.before.before.before.before.before.before.record-solved.ensures _ _ w.sys _ (solved_at w.at q))) in
-    record { n = c.before.before.before.before.before.before.before.before.before.before.before.before.before.before.before.before.before.before.before.args.n; sys = w.sys; s = _; at = lower_at w.at q o }
+    let w = c.requires in
+    let q = c.first_idle-v.ensures in
+    let o = c.add_to_others-cancelled.ensures.0 w.sys _ (others_at w.at q (c.record_solved.ensures _ _ w.sys _ (solved_at w.at q))) in
+    record { n = c.args.n; sys = w.sys; s = _; at = lower_at w.at q o }
 
-same_length : tie.Need-same-length
-same_length c = c.before.numbers3.given ∙ c.before.before.before.before.before.before.before.before.numbers2.given ∙ c.before.before.before.before.before.before.before.before.before.before.before.before.before.numbers.given
+same_length : tie.Need-shape_of-numbers
+same_length c = c.numbers-3-1.given ∙ c.numbers-2-1.given ∙ c.numbers-1.given
 
-same_length_2 : tie.Need-same-length-2
-same_length_2 c = c.before.before.before.before.before.before.words.given
+same_length_2 : tie.Need-shape_of-words
+same_length_2 c = c.words-1.given
 
 returns : tie.Need-returns
 returns c = (
   λ sys s es a.
-      let q = c.before.before.before.before.before.before.before.before.before.before.before.before.before.before.before.before.first-idle.ensures in
-      let o = c.before.before.before.before.before.before.before.before.before.add-to-others.ensures.0 sys _ (others_at a q (c.before.before.before.before.before.before.before.before.before.before.before.before.before.before.record-solved.ensures _ _ sys _ (solved_at a q))) in
-      solve_done a q o (c.before.before.lower-listed.ensures _ sys _ (lower_at a q o)),
+      let q = c.first_idle-v.ensures in
+      let o = c.add_to_others-cancelled.ensures.0 sys _ (others_at a q (c.record_solved.ensures _ _ sys _ (solved_at a q))) in
+      solve_done a q o (c.lower_listed.ensures _ sys _ (lower_at a q o)),
   λ sys s es a.
-      let q = c.before.before.before.before.before.before.before.before.before.before.before.before.before.before.before.before.first-idle.ensures in
-      solve_count a q (c.before.before.before.before.before.before.before.before.before.add-to-others.ensures.1 sys _ (others_at a q (c.before.before.before.before.before.before.before.before.before.before.before.before.before.before.record-solved.ensures _ _ sys _ (solved_at a q)))),
+      let q = c.first_idle-v.ensures in
+      solve_count a q (c.add_to_others-cancelled.ensures.1 sys _ (others_at a q (c.record_solved.ensures _ _ sys _ (solved_at a q)))),
 )
 
 pub solve_for_spec : {M : Type 1} → statement M

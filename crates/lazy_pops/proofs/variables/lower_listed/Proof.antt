@@ -4,41 +4,41 @@ use borrow.Author.Rules.{rules}
 use Rattle.lazy_pops.proofs.variables.lower_listed.Statement.{statement}
 use Rattle.lazy_pops.proofs.variables.lower_listed.Tie as tie
 
-add_first : tie.Need-overflow-add-first
-add_first c = let w = c.before.before.requires in let b = bounds (_) w.at.laid w.at.v_in in omega arith
+add_first : tie.Need-overflow_add-first
+add_first c = let w = c.requires in let b = bounds (_) w.at.laid w.at.v_in in omega arith
 
-mul_from : tie.Need-overflow-mul-from
-mul_from c = let w = c.before.before.requires in let b = bounds (_) w.at.laid w.at.v_in in omega arith
+mul_from : tie.Need-offset_bounds-numbers-first
+mul_from c = let w = c.requires in let b = bounds (_) w.at.laid w.at.v_in in omega arith
 
-slice_read_from : tie.Need-slice-read-from
-slice_read_from c = let w = c.before.before.before.requires in let b = bounds (_) w.at.laid w.at.v_in in omega arith
+slice_read_from : tie.Need-bounds-numbers-first
+slice_read_from c = let w = c.requires in let b = bounds (_) w.at.laid w.at.v_in in omega arith
 
-cast_from : tie.Need-overflow-cast-from
-cast_from c = let w = c.before.before.before.requires in let b = bounds (_) w.at.laid w.at.v_in in omega arith
+cast_from : tie.Need-overflow_cast-from
+cast_from c = let w = c.requires in let b = bounds (_) w.at.laid w.at.v_in in omega arith
 
-add_to_lem : tie.Need-overflow-add-to
-add_to_lem c = let w = c.before.before.before.requires in let b = bounds (_) w.at.laid w.at.v_in in omega arith
+add_to_lem : tie.Need-overflow_add-to
+add_to_lem c = let w = c.requires in let b = bounds (_) w.at.laid w.at.v_in in omega arith
 
-mul_to : tie.Need-overflow-mul-to
-mul_to c = let w = c.before.before.before.requires in let b = bounds (_) w.at.laid w.at.v_in in omega arith
+mul_to : tie.Need-offset_bounds-numbers-first-2
+mul_to c = let w = c.requires in let b = bounds (_) w.at.laid w.at.v_in in omega arith
 
-slice_read_to : tie.Need-slice-read-to
-slice_read_to c = let w = c.before.before.before.before.requires in let b = bounds (_) w.at.laid w.at.v_in in omega arith
+slice_read_to : tie.Need-bounds-numbers-first-2
+slice_read_to c = let w = c.requires in let b = bounds (_) w.at.laid w.at.v_in in omega arith
 
-cast_to : tie.Need-overflow-cast-to
-cast_to c = let w = c.before.before.before.before.requires in let b = bounds (_) w.at.laid w.at.v_in in omega arith
+cast_to : tie.Need-overflow_cast-to
+cast_to c = let w = c.requires in let b = bounds (_) w.at.laid w.at.v_in in omega arith
 
-add_lower_in : tie.Need-overflow-add-lower-in
-add_lower_in c = let w = c.before.before.before.before.before.before.requires in let b = bounds (_) w.at.laid w.at.v_in in omega arith
+add_lower_in : tie.Need-overflow_add-layout
+add_lower_in c = let w = c.requires in let b = bounds (_) w.at.laid w.at.v_in in omega arith
 
-sub_lower_in : tie.Need-overflow-sub-lower-in
-sub_lower_in c = let w = c.before.before.before.before.before.before.requires in let b = bounds (_) w.at.laid w.at.v_in in omega arith
+sub_lower_in : tie.Need-overflow_sub-to
+sub_lower_in c = let w = c.requires in let b = bounds (_) w.at.laid w.at.v_in in omega arith
 
-lower_in_requires : tie.Need-lower-in-requires
-lower_in_requires c κs = listed_fits c.before.before.before.before.before.before.requires.at
+lower_in_requires : tie.Need-lower_in-requires
+lower_in_requires c κs = listed_fits c.requires.at
 
 returns : tie.Need-returns
-returns c = λ n sys s w. listed_done w c.before.before.lower_in.ensures
+returns c = λ n sys s w. listed_done w c.lower_in.ensures
 
 pub lower_listed_spec : {M : Type 1} → statement M
 lower_listed_spec =

@@ -4,23 +4,23 @@ use borrow.Author.Rules.{rules}
 use Rattle.lazy_setup.proofs.load.first_list.Statement.{statement}
 use Rattle.lazy_setup.proofs.load.first_list.Tie as tie
 
-abbrev invariant_loop : tie.invariant-loop
+abbrev invariant_loop : tie.invariant-loop-i
 invariant_loop numbers₀ m priority list top₀ i₀ numbers top i = Listing m priority list numbers₀ i top numbers
 
-abbrev decreases_loop : tie.decreases-loop
+abbrev decreases_loop : tie.decreases-loop-i
 decreases_loop numbers₀ m priority list top₀ i₀ numbers top i = i
 
-add_numbers : tie.Need-overflow-add-numbers invariant_loop decreases_loop
-add_numbers c = let h = listing_room c.before.before.before.loop.invariant c.before.before.loop-test.true c.if1.true in search rules
+add_numbers : tie.Need-overflow_add-numbers invariant_loop decreases_loop
+add_numbers c = let h = listing_room c.loop-i.invariant c.loop-i-test.true c.if-numbers-priority-le1.true in search rules
 
-mul_numbers : tie.Need-overflow-mul-numbers invariant_loop decreases_loop
-mul_numbers c = let h = listing_room c.before.before.before.loop.invariant c.before.before.loop-test.true c.if1.true in search rules
+mul_numbers : tie.Need-offset_bounds-numbers-list invariant_loop decreases_loop
+mul_numbers c = let h = listing_room c.loop-i.invariant c.loop-i-test.true c.if-numbers-priority-le1.true in search rules
 
-slice_write_numbers : tie.Need-slice-write-numbers invariant_loop decreases_loop
-slice_write_numbers c = let h = listing_room c.before.before.before.loop.invariant c.before.before.loop-test.true c.if1.true in search rules
+slice_write_numbers : tie.Need-bounds-numbers-list invariant_loop decreases_loop
+slice_write_numbers c = let h = listing_room c.loop-i.invariant c.loop-i-test.true c.if-numbers-priority-le1.true in search rules
 
-add_top : tie.Need-overflow-add-top invariant_loop decreases_loop
-add_top c = let h = listing_room c.before.before.before.loop.invariant c.before.before.loop-test.true c.if1.true in search rules
+add_top : tie.Need-overflow_add-top invariant_loop decreases_loop
+add_top c = let h = listing_room c.loop-i.invariant c.loop-i-test.true c.if-numbers-priority-le1.true in search rules
 
 pub first_list_spec : {M : Type 1} → statement M
 first_list_spec =
@@ -39,8 +39,8 @@ first_list_spec =
     slice_write_numbers
     add_top
     (λ c. search rules)  -- loop-less
-    (λ c. listing_push c.before.before.before.loop.invariant c.before.before.loop-test.true c.if1.true)  -- loop-again
+    (λ c. listing_push c.loop-i.invariant c.loop-i-test.true c.if-numbers-priority-le1.true)  -- loop-again
     (λ c. search rules)  -- loop-less-2
-    (λ c. listing_pass c.before.before.before.loop.invariant c.before.before.loop-test.true c.if1.false)  -- loop-again-2
+    (λ c. listing_pass c.loop-i.invariant c.loop-i-test.true c.if-numbers-priority-le1.false)  -- loop-again-2
     (λ c. search rules)  -- same-length
-    (λ c. listing_end c.before.loop.invariant c.loop-test.false))
+    (λ c. listing_end c.loop-i.invariant c.loop-i-test.false))

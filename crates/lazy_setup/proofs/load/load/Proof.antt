@@ -9,14 +9,14 @@ use borrow.Author.Rules.{rules}
 use Rattle.lazy_setup.proofs.load.load.Statement.{statement}
 use Rattle.lazy_setup.proofs.load.load.Tie as tie
 
-write_lengths_requires : tie.Need-write-lengths-requires
-write_lengths_requires c κs = let s = c.before.before.before.before.before.before.before.before in let f = s.requires.0.0 in (f.few_equations, f.starts_long, λ i h. f.climbing i (i + 1) (omega arith) (omega arith), search rules)
+write_lengths_requires : tie.Need-write_lengths-requires
+write_lengths_requires c κs = let s = c in let f = s.requires.0.0 in (f.few_equations, f.starts_long, λ i h. f.climbing i (i + 1) (omega arith) (omega arith), search rules)
 
-write_lengths_requires_2 : tie.Need-write-lengths-requires-2
-write_lengths_requires_2 c κs = let s = c.before.before.before.before.before.before.before.before.before.before.before.before in let f = s.requires.0.0 in (f.few_equations, f.starts_long, λ i h. f.climbing i (i + 1) (omega arith) (omega arith), search rules)
+write_lengths_requires_2 : tie.Need-write_lengths-requires-2
+write_lengths_requires_2 c κs = let s = c in let f = s.requires.0.0 in (f.few_equations, f.starts_long, λ i h. f.climbing i (i + 1) (omega arith) (omega arith), search rules)
 
 returns : tie.Need-returns
-returns c = let s = c.before.before.before.before.before.before.before.before.before.before.before.before.before.before.before.before.before.before.before in c.before.before.mark.ensures ∙ ap (put s.args.idle (replicate s.args.n 1)) (c.before.before.before.before.before.before.write-lengths2.ensures ∙ ap (put s.args.priority (spans s.args.m s.args.starts.now)) (c.before.before.before.before.before.before.before.before.before.before.write-lengths.ensures ∙ ap (put s.args.lengths (spans s.args.m s.args.starts.now)) c.before.before.before.before.before.before.before.before.before.before.before.before.before.before.load-rows.ensures))
+returns c = let s = c in c.mark.ensures ∙ ap (put s.args.idle (replicate s.args.n 1)) (c.write_lengths-2.ensures ∙ ap (put s.args.priority (spans s.args.m s.args.starts.now)) (c.write_lengths.ensures ∙ ap (put s.args.lengths (spans s.args.m s.args.starts.now)) c.load_rows.ensures))
 
 pub load_spec : {M : Type 1} → statement M
 load_spec =

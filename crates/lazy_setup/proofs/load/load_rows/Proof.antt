@@ -6,44 +6,44 @@ use native.Mathlib.Omega.{arith}
 use Rattle.lazy_setup.proofs.load.load_rows.Statement.{statement}
 use Rattle.lazy_setup.proofs.load.load_rows.Tie as tie
 
-abbrev invariant_loop : tie.invariant-loop
+abbrev invariant_loop : tie.invariant-loop-i
 invariant_loop n m starts vars numbers₀ i₀ numbers i = Loading n m starts vars numbers₀ i numbers
 
-abbrev decreases_loop : tie.decreases-loop
+abbrev decreases_loop : tie.decreases-loop-i
 decreases_loop n m starts vars numbers₀ i₀ numbers i = m - i
 
-loop_holds : tie.Need-loop-init invariant_loop decreases_loop
-loop_holds c = loading_begin _ _ _ _ _ c.before.before.before.requires.0 c.before.before.before.requires.1 c.before.before.before.requires.2
+loop_holds : tie.Need-loop-i-init invariant_loop decreases_loop
+loop_holds c = loading_begin _ _ _ _ _ c.requires.0 c.requires.1 c.requires.2
 
-shared_slice_read_to : tie.Need-shared-slice-read-to invariant_loop decreases_loop
-shared_slice_read_to c = let h = loading_fits c.before.before.before.loop.invariant c.before.before.loop-test.true in search rules
+shared_slice_read_to : tie.Need-bounds-starts-i-in-loop-i invariant_loop decreases_loop
+shared_slice_read_to c = let h = loading_fits c.loop-i.invariant c.loop-i-test.true in search rules
 
-mul_copy_numbers : tie.Need-overflow-mul-copy-numbers invariant_loop decreases_loop
-mul_copy_numbers c = let h = loading_fits c.before.before.before.loop.invariant c.before.before.loop-test.true in search rules
+mul_copy_numbers : tie.Need-offset_bounds-vars-from invariant_loop decreases_loop
+mul_copy_numbers c = let h = loading_fits c.loop-i.invariant c.loop-i-test.true in search rules
 
-sub_copy_numbers : tie.Need-overflow-sub-copy-numbers invariant_loop decreases_loop
-sub_copy_numbers c = let h = loading_fits c.before.before.before.loop.invariant c.before.before.loop-test.true in search rules
+sub_copy_numbers : tie.Need-slice_bounds-copy_numbers-count invariant_loop decreases_loop
+sub_copy_numbers c = let h = loading_fits c.loop-i.invariant c.loop-i-test.true in search rules
 
-part_copy_numbers_start : tie.Need-slice-bounds-copy-numbers-start invariant_loop decreases_loop
-part_copy_numbers_start c = let h = loading_fits c.before.before.before.loop.invariant c.before.before.loop-test.true in search rules
+part_copy_numbers_start : tie.Need-slice_bounds-copy_numbers-start invariant_loop decreases_loop
+part_copy_numbers_start c = let h = loading_fits c.loop-i.invariant c.loop-i-test.true in search rules
 
-part_copy_numbers_end : tie.Need-slice-bounds-copy-numbers-end invariant_loop decreases_loop
-part_copy_numbers_end c = let h = loading_fits c.before.before.before.loop.invariant c.before.before.loop-test.true in search rules
+part_copy_numbers_end : tie.Need-slice_bounds-copy_numbers-end invariant_loop decreases_loop
+part_copy_numbers_end c = let h = loading_fits c.loop-i.invariant c.loop-i-test.true in search rules
 
-mul_copy_numbers_2 : tie.Need-overflow-mul-copy-numbers-2 invariant_loop decreases_loop
-mul_copy_numbers_2 c = let h = loading_fits c.before.before.before.before.before.loop.invariant c.before.before.before.before.loop-test.true in search rules
+mul_copy_numbers_2 : tie.Need-overflow_mul-i invariant_loop decreases_loop
+mul_copy_numbers_2 c = let h = loading_fits c.loop-i.invariant c.loop-i-test.true in search rules
 
-copy_numbers_requires : tie.Need-copy-numbers-requires invariant_loop decreases_loop
-copy_numbers_requires c κs = let h = loading_fits c.before.before.before.before.before.loop.invariant c.before.before.before.before.loop-test.true in search rules
+copy_numbers_requires : tie.Need-copy_numbers-requires invariant_loop decreases_loop
+copy_numbers_requires c κs = let h = loading_fits c.loop-i.invariant c.loop-i-test.true in search rules
 
-add_i : tie.Need-overflow-add-i invariant_loop decreases_loop
-add_i c = let h = loading_fits c.before.before.before.before.before.before.before.before.loop.invariant c.before.before.before.before.before.before.before.loop-test.true in search rules
+add_i : tie.Need-overflow_add-i invariant_loop decreases_loop
+add_i c = let h = loading_fits c.loop-i.invariant c.loop-i-test.true in search rules
 
-loop_less : tie.Need-loop-smaller invariant_loop decreases_loop
-loop_less c = let h = loading_fits c.before.before.before.before.before.before.before.before.loop.invariant c.before.before.before.before.before.before.before.loop-test.true in search rules
+loop_less : tie.Need-loop-i-smaller invariant_loop decreases_loop
+loop_less c = let h = loading_fits c.loop-i.invariant c.loop-i-test.true in search rules
 
-loop_again : tie.Need-loop-preserved invariant_loop decreases_loop
-loop_again c = loading_turn c.before.before.before.before.before.before.before.before.loop.invariant c.before.before.before.before.before.before.before.loop-test.true _ c.before.before.copy-numbers.ensures
+loop_again : tie.Need-loop-i-preserved invariant_loop decreases_loop
+loop_again c = loading_turn c.loop-i.invariant c.loop-i-test.true _ c.copy_numbers.ensures
 
 pub load_rows_spec : {M : Type 1} → statement M
 load_rows_spec =
@@ -52,13 +52,13 @@ load_rows_spec =
     invariant_loop
     decreases_loop
     loop_holds
-    (λ c. let h = loading_fits c.before.loop.invariant c.loop-test.true in search rules)  -- mul-from
-    (λ c. let h = loading_fits c.before.before.loop.invariant c.before.loop-test.true in search rules)  -- shared-slice-read-from
-    (λ c. omega (arith, c.shared-slice-known3.given c.before.before.loop.i))  -- cast-from
-    (λ c. let h = loading_fits c.before.before.loop.invariant c.before.loop-test.true in search rules)  -- add-to
-    (λ c. let h = loading_fits c.before.before.loop.invariant c.before.loop-test.true in search rules)  -- mul-to
+    (λ c. let h = loading_fits c.loop-i.invariant c.loop-i-test.true in search rules)  -- mul-from
+    (λ c. let h = loading_fits c.loop-i.invariant c.loop-i-test.true in search rules)  -- shared-slice-read-from
+    (λ c. omega (arith, c.shared_slice_known-in-loop-i-1.given c.loop-i.i))  -- cast-from
+    (λ c. let h = loading_fits c.loop-i.invariant c.loop-i-test.true in search rules)  -- add-to
+    (λ c. let h = loading_fits c.loop-i.invariant c.loop-i-test.true in search rules)  -- mul-to
     shared_slice_read_to
-    (λ c. omega (arith, c.shared-slice-known4.given (c.before.before.before.loop.i + 1)))  -- cast-to
+    (λ c. omega (arith, c.shared_slice_known-in-loop-i-2-1.given (c.loop-i.i + 1)))  -- cast-to
     mul_copy_numbers
     sub_copy_numbers
     part_copy_numbers_start
@@ -69,4 +69,4 @@ load_rows_spec =
     loop_less
     loop_again
     (λ c. search rules)  -- same-length
-    (λ c. loading_end c.before.loop.invariant c.loop-test.false))
+    (λ c. loading_end c.loop-i.invariant c.loop-i-test.false))

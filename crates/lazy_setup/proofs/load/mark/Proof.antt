@@ -8,20 +8,20 @@ use native.Mathlib.Omega.{arith}
 use Rattle.lazy_setup.proofs.load.mark.Statement.{statement}
 use Rattle.lazy_setup.proofs.load.mark.Tie as tie
 
-abbrev invariant_loop : tie.invariant-loop
+abbrev invariant_loop : tie.invariant-loop-i
 invariant_loop n numbers₀ at i₀ numbers i = Writing at (replicate n 1) numbers₀ i numbers × (i ≤ n) × (at + n ≤ length numbers₀)
 
-abbrev decreases_loop : tie.decreases-loop
+abbrev decreases_loop : tie.decreases-loop-i
 decreases_loop n numbers₀ at i₀ numbers i = n - i
 
-loop_holds : tie.Need-loop-init invariant_loop decreases_loop
+loop_holds : tie.Need-loop-i-init invariant_loop decreases_loop
 loop_holds c = (writing_begin c.args.at (replicate c.args.n 1) c.args.numbers.now (let z = length-replicate {A = ℕ} c.args.n 1 in omega arith), search rules, search rules)
 
-loop_again : tie.Need-loop-preserved invariant_loop decreases_loop
-loop_again c = (writing_turn 1 c.before.loop.invariant.0 (let z = length-replicate {A = ℕ} c.before.before.args.n 1 in let t = c.loop-test.true in omega arith) (sym (get_or-replicate {A = ℕ} c.before.before.args.n c.before.loop.i 1 0 (let t = c.loop-test.true in omega arith))), search rules, search rules)
+loop_again : tie.Need-loop-i-preserved invariant_loop decreases_loop
+loop_again c = (writing_turn 1 c.loop-i.invariant.0 (let z = length-replicate {A = ℕ} c.args.n 1 in let t = c.loop-i-test.true in omega arith) (sym (get_or-replicate {A = ℕ} c.args.n c.loop-i.i 1 0 (let t = c.loop-i-test.true in omega arith))), search rules, search rules)
 
 returns : tie.Need-returns invariant_loop decreases_loop
-returns c = writing_end c.before.loop.invariant.0 (let z = length-replicate {A = ℕ} c.before.before.args.n 1 in let t = c.loop-test.false in omega arith)
+returns c = writing_end c.loop-i.invariant.0 (let z = length-replicate {A = ℕ} c.args.n 1 in let t = c.loop-i-test.false in omega arith)
 
 pub mark_spec : {M : Type 1} → statement M
 mark_spec =

@@ -3,11 +3,11 @@ use borrow.Author.Rules.{rules}
 use Rattle.lazy_units.proofs.clearing.clear_dense.Statement.{statement}
 use Rattle.lazy_units.proofs.clearing.clear_dense.Tie as tie
 
-outer_row_requires : tie.Need-outer-row-requires
-outer_row_requires c κs = clear_asks c.before.before.before.before.requires
+outer_row_requires : tie.Need-outer_row-requires
+outer_row_requires c κs = clear_asks c.requires
 
 returns : tie.Need-returns
-returns c = (clear_gives c.before.before.before.before.before.before.before.before.before.requires _ _ _ c.before.before.before.before.outer-row.ensures.0, clear_counts c.before.before.before.before.before.before.before.before.before.requires c.before.before.before.before.outer-row.ensures.1)
+returns c = (clear_gives c.requires _ _ _ c.outer_row.ensures.0, clear_counts c.requires c.outer_row.ensures.1)
 
 pub clear_dense_spec : {M : Type 1} → statement M
 clear_dense_spec =

@@ -4,29 +4,29 @@ use borrow.Author.Rules.{rules}
 use Rattle.lazy_units.proofs.clearing.clear_row.Statement.{statement}
 use Rattle.lazy_units.proofs.clearing.clear_row.Tie as tie
 
-clear_dense_requires : tie.Need-clear-dense-requires
-clear_dense_requires c κs = clear_fits c.before.before.before.before.requires.at
+clear_dense_requires : tie.Need-clear_dense-row-requires
+clear_dense_requires c κs = clear_fits c.requires.at
 
-add_next : tie.Need-overflow-add-next
-add_next c = let b = clear_fits c.before.before.before.before.before.before.before.before.before.before.before.before.requires.at in omega arith
+add_next : tie.Need-overflow_add-next
+add_next c = let b = clear_fits c.requires.at in omega arith
 
-same_length : tie.Need-same-length
-same_length c = c.before.before.before.before.before.numbers.given
+same_length : tie.Need-shape_of-numbers-in-Unsolvable
+same_length c = c.numbers-1.given
 
-same_length_2 : tie.Need-same-length-2
-same_length_2 c = c.before.before.before.words.given
+same_length_2 : tie.Need-shape_of-words-in-Unsolvable
+same_length_2 c = c.words-1.given
 
-returns : tie.Need-returns
-returns c = let q = c.before.before.before.before.before.before.clear-dense.ensures in (λ sys s a. clear_refused a q.0 c.enum_told.given.1, λ sys s a. clear_count a q.1)
+returns : tie.Need-returns-in-Unsolvable
+returns c = let q = c.clear_dense-row.ensures in (λ sys s a. clear_refused a q.0 c.in-Unsolvable.is, λ sys s a. clear_count a q.1)
 
-same_length_3 : tie.Need-same-length-3
-same_length_3 c = c.before.before.before.before.before.before.numbers.given
+same_length_3 : tie.Need-shape_of-numbers-in-Reduced
+same_length_3 c = c.numbers-1.given
 
-same_length_4 : tie.Need-same-length-4
-same_length_4 c = c.before.before.before.before.words.given
+same_length_4 : tie.Need-shape_of-words-in-Reduced
+same_length_4 c = c.words-1.given
 
-returns_2 : tie.Need-returns-2
-returns_2 c = let q = c.before.before.before.before.before.before.before.clear-dense.ensures in (λ sys s a. clear_more a q.0 c.before.enum-told2.given.1, λ sys s a. clear_count a q.1)
+returns_2 : tie.Need-returns-in-Reduced
+returns_2 c = let q = c.clear_dense-row.ensures in (λ sys s a. clear_more a q.0 c.in-Reduced.is, λ sys s a. clear_count a q.1)
 
 pub clear_row_spec : {M : Type 1} → statement M
 clear_row_spec =

@@ -14,7 +14,7 @@ none_requires : tie.Need-none-requires
 none_requires c κs = search rules
 
 returns : tie.Need-returns
-returns c = ap (λ (r : StuckReport). record { answer = CrowdedVertex c.before.args.low; report = r }) c.none.ensures
+returns c = ap (λ (r : StuckReport). record { answer = CrowdedVertex c.args.low; report = r }) c.none.ensures
 
 pub crowded_spec : {M : Type 1} → statement M
 crowded_spec = tie.close (tie.spec none_requires returns)

@@ -11,17 +11,17 @@ use Rattle.peel_gates.proofs.ends.ended.Reads as reads
 use Rattle.peel_gates.proofs.ends.ended.Lts as lts
 use Rattle.peel_rules.proofs.report.StuckReport.none.Reads as none_reads
 
-report_of_requires : tie.Need-report-of-requires
+report_of_requires : tie.Need-report_of-requires
 report_of_requires c κs = search rules
 
-returns : tie.Need-returns
-returns c = simp (lt-ltb _ _ c.before.if1.true) (ap (λ (r : StuckReport). record { answer = Stuck c.before.before.args.peeled; report = r }) c.report-of.ensures)
+returns : tie.Need-returns-then-peeled-m
+returns c = simp (lt-ltb _ _ c.if-peeled-m.true) (ap (λ (r : StuckReport). record { answer = Stuck c.args.peeled; report = r }) c.report_of.ensures)
 
 none_requires : tie.Need-none-requires
 none_requires c κs = search rules
 
-returns_2 : tie.Need-returns-2
-returns_2 c = simp (le-ltb _ _ c.before.if1.false) (ap (λ (r : StuckReport). record { answer = Solved; report = r }) c.none.ensures)
+returns_2 : tie.Need-returns
+returns_2 c = simp (le-ltb _ _ c.if-peeled-m.false) (ap (λ (r : StuckReport). record { answer = Solved; report = r }) c.none.ensures)
 
 pub ended_spec : {M : Type 1} → statement M
 ended_spec = tie.close (tie.spec report_of_requires returns none_requires returns_2)

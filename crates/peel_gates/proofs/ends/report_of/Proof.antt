@@ -5,11 +5,11 @@ use Rattle.peel_rules.proofs.Counts.{count_exact, hundred}
 use Rattle.peel_gates.proofs.ends.report_of.Statement.{statement}
 use Rattle.peel_gates.proofs.ends.report_of.Tie as tie
 
-int_to_float_share : tie.Need-int-to-float-share
-int_to_float_share c = count_exact _ (omega (arith, c.before.requires.1))
+int_to_float_share : tie.Need-int_to_float-share
+int_to_float_share c = count_exact _ (omega (arith, c.requires.1))
 
-int_to_float_t5 : tie.Need-int-to-float-t5
-int_to_float_t5 c = count_exact _ c.before.before.requires.1
+int_to_float_t5 : tie.Need-int_to_float-result
+int_to_float_t5 c = count_exact _ c.requires.1
 
 returns : tie.Need-returns
 returns c = rw hundred

@@ -6,13 +6,13 @@ use Rattle.peel_gates.proofs.rooms.bytes_room.Reads as reads
 use Rattle.peel_gates.proofs.rooms.bytes_room.Lts as lts
 use Rattle.answers.proofs.peel_high_bytes.Reads as peel-high-bytes-reads
 
-peel_high_bytes_requires : tie.Need-peel-high-bytes-requires
+peel_high_bytes_requires : tie.Need-peel_high_bytes-requires
 peel_high_bytes_requires c κs = search rules
 
-returns : tie.Need-returns
-returns c = rw c.before.if1.true c.peel-high-bytes.ensures
+returns : tie.Need-returns-then-high
+returns c = rw c.if-high.true c.peel_high_bytes.ensures
 
-returns_2 : tie.Need-returns-2
+returns_2 : tie.Need-returns
 returns_2 c = search rules
 
 pub bytes_room_spec : {M : Type 1} → statement M

@@ -16,7 +16,7 @@ none_requires : tie.Need-none-requires
 none_requires c κs = search rules
 
 returns : tie.Need-returns
-returns c = ap (λ (r : StuckReport). record { opened = false; refusal = record { answer = c.before.args.answer; report = r } }) c.none.ensures
+returns c = ap (λ (r : StuckReport). record { opened = false; refusal = record { answer = c.args.answer; report = r } }) c.none.ensures
 
 pub shut_spec : {M : Type 1} → statement M
 shut_spec = tie.close (tie.spec none_requires returns)

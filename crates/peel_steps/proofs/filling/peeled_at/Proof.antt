@@ -9,17 +9,17 @@ use Rattle.peel_steps.proofs.filling.peeled_at.Lts as lts
 use Rattle.peel_steps.proofs.filling.kept_edge.Reads as kept-edge-reads
 use Rattle.peel_steps.proofs.filling.kept_vertex.Reads as kept-vertex-reads
 
-kept_edge_requires : tie.Need-kept-edge-requires
-kept_edge_requires c κs = let k = reads_high _ _ _ _ _ c.if1.true c.before.before.before.requires.2 in (c.before.before.before.requires.0, c.before.before.before.requires.1, k.0, k.1)
+kept_edge_requires : tie.Need-kept_edge-requires
+kept_edge_requires c κs = let k = reads_high _ _ _ _ _ c.if-high.true c.requires.2 in (c.requires.0, c.requires.1, k.0, k.1)
 
-returns : tie.Need-returns
-returns c = rw c.before.if1.true c.kept-edge.ensures
+returns : tie.Need-returns-then-high
+returns c = rw c.if-high.true c.kept_edge.ensures
 
-kept_vertex_requires : tie.Need-kept-vertex-requires
-kept_vertex_requires c κs = (c.before.before.before.requires.0, reads_low _ _ _ _ _ c.if1.false c.before.before.before.requires.2)
+kept_vertex_requires : tie.Need-kept_vertex-requires
+kept_vertex_requires c κs = (c.requires.0, reads_low _ _ _ _ _ c.if-high.false c.requires.2)
 
-returns_2 : tie.Need-returns-2
-returns_2 c = rw c.before.if1.false c.kept-vertex.ensures
+returns_2 : tie.Need-returns
+returns_2 c = rw c.if-high.false c.kept_vertex.ensures
 
 pub peeled_at_spec : {M : Type 1} → statement M
 peeled_at_spec = tie.close (tie.spec kept_edge_requires returns kept_vertex_requires returns_2)

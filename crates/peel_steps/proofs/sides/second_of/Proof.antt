@@ -7,11 +7,11 @@ use Rattle.peel_steps.proofs.sides.second_of.Tie as tie
 use Rattle.peel_steps.proofs.sides.second_of.Reads as reads
 use Rattle.peel_steps.proofs.sides.second_of.Lts as lts
 
-returns : tie.Need-returns
-returns c = sym (below_two _ _ c.before.if1.true).second_is
+returns : tie.Need-returns-then-side-lt2
+returns c = sym (below_two _ _ c.if-side-lt2.true).second_is
 
-returns_2 : tie.Need-returns-2
-returns_2 c = sym (from_two _ _ c.before.if1.false).second_is
+returns_2 : tie.Need-returns
+returns_2 c = sym (from_two _ _ c.if-side-lt2.false).second_is
 
 pub second_of_spec : {M : Type 1} → statement M
 second_of_spec = tie.close (tie.spec returns returns_2)

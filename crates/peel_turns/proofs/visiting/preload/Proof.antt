@@ -11,41 +11,41 @@ use Rattle.peel_turns.proofs.visiting.next_edge.Reads as next-edge-reads
 use Rattle.peel_turns.proofs.visiting.push_if.Reads as push-if-reads
 use Rattle.peeling.proofs.incidence.degree_at.Reads as degree-at-reads
 
-abbrev invariant_loop : tie.invariant-loop
+abbrev invariant_loop : tie.invariant-loop-v
 invariant_loop n numbers₀ bytes top₀ v₀ numbers top v = Preloading n numbers₀ bytes numbers v top
 
-abbrev decreases_loop : tie.decreases-loop
+abbrev decreases_loop : tie.decreases-loop-v
 decreases_loop n numbers₀ bytes top₀ v₀ numbers top v = n - v
 
-loop_holds : tie.Need-loop-init invariant_loop decreases_loop
-loop_holds c = preloading_begin c.before.before.requires
+loop_holds : tie.Need-loop-v-init invariant_loop decreases_loop
+loop_holds c = preloading_begin c.requires
 
-cast_t10 : tie.Need-overflow-cast-t10 invariant_loop decreases_loop
+cast_t10 : tie.Need-overflow_cast-w invariant_loop decreases_loop
 cast_t10 c = search rules
 
-degree_at_requires : tie.Need-degree-at-requires invariant_loop decreases_loop
+degree_at_requires : tie.Need-degree_at-one-requires invariant_loop decreases_loop
 degree_at_requires c κs = search rules
 
-push_if_requires : tie.Need-push-if-requires invariant_loop decreases_loop
+push_if_requires : tie.Need-push_if-top-requires invariant_loop decreases_loop
 push_if_requires c κs = search rules
 
-add_v : tie.Need-overflow-add-v invariant_loop decreases_loop
+add_v : tie.Need-overflow_add-v invariant_loop decreases_loop
 add_v c = search rules
 
-loop_less : tie.Need-loop-smaller invariant_loop decreases_loop
+loop_less : tie.Need-loop-v-smaller invariant_loop decreases_loop
 loop_less c = search rules
 
-loop_again : tie.Need-loop-preserved invariant_loop decreases_loop
-loop_again c = preloading_turn c.before.before.before.before.before.before.loop.invariant c.before.before.before.before.before.loop-test.true c.before.before.before.before.degree-at.ensures refl c.before.before.push-if.ensures.1 c.before.before.push-if.ensures.0
+loop_again : tie.Need-loop-v-preserved invariant_loop decreases_loop
+loop_again c = preloading_turn c.loop-v.invariant c.loop-v-test.true c.degree_at-one.ensures refl c.push_if-top.ensures.1 c.push_if-top.ensures.0
 
-next_edge_requires : tie.Need-next-edge-requires invariant_loop decreases_loop
-next_edge_requires c κs = preloaded_tops c.before.before.loop.invariant c.before.loop-test.false
+next_edge_requires : tie.Need-next_edge-next-requires invariant_loop decreases_loop
+next_edge_requires c κs = preloaded_tops c.loop-v.invariant c.loop-v-test.false
 
-same_length : tie.Need-same-length invariant_loop decreases_loop
+same_length : tie.Need-shape_of-numbers invariant_loop decreases_loop
 same_length c = search rules
 
 returns : tie.Need-returns invariant_loop decreases_loop
-returns c = (preloading_end c.before.before.before.loop.invariant c.before.before.loop-test.false, refl, c.next_edge.ensures)
+returns c = (preloading_end c.loop-v.invariant c.loop-v-test.false, refl, c.next_edge-next.ensures)
 
 pub preload_spec : {M : Type 1} → statement M
 preload_spec =

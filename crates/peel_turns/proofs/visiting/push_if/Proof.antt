@@ -7,34 +7,34 @@ use Rattle.peel_turns.proofs.visiting.push_if.Reads as reads
 use Rattle.peel_turns.proofs.visiting.push_if.Lts as lts
 use Rattle.stack_steps.proofs.fast_push.Reads as fast-push-reads
 
-mul_fast_push : tie.Need-overflow-mul-fast-push
+mul_fast_push : tie.Need-offset_bounds-numbers-n
 mul_fast_push c = search rules
 
-sub_fast_push : tie.Need-overflow-sub-fast-push
+sub_fast_push : tie.Need-slice_bounds-fast_push-count
 sub_fast_push c = search rules
 
-part_fast_push_start : tie.Need-slice-bounds-fast-push-start
+part_fast_push_start : tie.Need-slice_bounds-fast_push-start
 part_fast_push_start c = search rules
 
-part_fast_push_end : tie.Need-slice-bounds-fast-push-end
+part_fast_push_end : tie.Need-slice_bounds-fast_push-end
 part_fast_push_end c = search rules
 
-fast_push_requires : tie.Need-fast-push-requires
+fast_push_requires : tie.Need-fast_push-after-requires
 fast_push_requires c κs = search rules
 
-same_length : tie.Need-same-length
+same_length : tie.Need-shape_of-numbers-then-yes
 same_length c = search rules
 
-returns : tie.Need-returns
+returns : tie.Need-returns-then-yes
 returns c =
-    let at = c.before.before.before.before.before.before in
-    let pushed = c.before.before.fast-push.ensures in
-    rw c.before.before.before.before.if1.true (
+    let at = c in
+    let pushed = c.fast_push-after.ensures in
+    rw c.if-yes.true (
       ap (λ r. r.head.lower) pushed.0 ∙ head_from at.args.numbers.now _ at.args.n at.args.v.0 at.requires,
       push_from at.args.numbers.now _ _ at.args.n at.args.v.0 at.requires pushed.1,
     )
 
-returns_2 : tie.Need-returns-2
+returns_2 : tie.Need-returns
 returns_2 c = search rules
 
 pub push_if_spec : {M : Type 1} → statement M

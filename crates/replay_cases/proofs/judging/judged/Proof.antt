@@ -7,31 +7,31 @@ use Rattle.replay_cases.proofs.Ladder.{first_no, second_no, third_no, fourth_dec
 use Rattle.replay_cases.proofs.judging.judged.Statement.{statement}
 use Rattle.replay_cases.proofs.judging.judged.Tie as tie
 
-returns : tie.Need-returns
-returns c = first_no _ c.before.agrees.ensures (not-true _ c.if1.true)
+returns : tie.Need-returns-then-not-agrees
+returns c = first_no _ c.agrees.ensures (c.if-not-agrees.true)
 
-returns_2 : tie.Need-returns-2
+returns_2 : tie.Need-returns-then-not-solution_left
 returns_2 c =
-    second_no _ c.before.before.before.agrees.ensures (not-false _ c.before.before.if1.false) c.before.solution-left.ensures (not-true _ c.if2.true)
+    second_no _ c.agrees.ensures (c.if-not-agrees.false) c.solution_left.ensures (c.if-not-solution_left.true)
 
-returns_3 : tie.Need-returns-3
+returns_3 : tie.Need-returns-then-not-left_numbers
 returns_3 c =
-    let a = c.before.before.before.before.before.before.before.before.before.before.before.args in
-    third_no _ c.before.before.before.before.before.before.agrees.ensures (not-false _ c.before.before.before.before.before.if1.false)
-    c.before.before.before.before.solution-left.ensures
-    (not-false _ c.before.before.before.if2.false)
-    (c.before.left-numbers.ensures ∙ ap (λ (z : ℕ). left_cells z a.numbers.now) c.before.before.zeros-after.ensures)
-    (not-true _ c.if3.true)
+    let a = c.args in
+    third_no _ c.agrees.ensures (c.if-not-agrees.false)
+    c.solution_left.ensures
+    (c.if-not-solution_left.false)
+    (c.left_numbers.ensures ∙ ap (λ (z : ℕ). left_cells z a.numbers.now) c.zeros_after.ensures)
+    (c.if-not-left_numbers.true)
 
-returns_4 : tie.Need-returns-4
+returns_4 : tie.Need-returns
 returns_4 c =
-    let a = c.before.before.before.before.before.before.before.before.before.before.before.before.before.args in
-    fourth_decides c.before.before.before.before.before.before.before.before.agrees.ensures (not-false _ c.before.before.before.before.before.before.before.if1.false)
-    c.before.before.before.before.before.before.solution-left.ensures
-    (not-false _ c.before.before.before.before.before.if2.false)
-    (c.before.before.before.left-numbers.ensures ∙ ap (λ (z : ℕ). left_cells z a.numbers.now) c.before.before.before.before.zeros-after.ensures)
-    (not-false _ c.before.before.if3.false)
-    (c.left-words.ensures ∙ ap (λ (z : ℕ). left_cells z a.words.now) c.before.zeros-after2.ensures)
+    let a = c.args in
+    fourth_decides c.agrees.ensures (c.if-not-agrees.false)
+    c.solution_left.ensures
+    (c.if-not-solution_left.false)
+    (c.left_numbers.ensures ∙ ap (λ (z : ℕ). left_cells z a.numbers.now) c.zeros_after.ensures)
+    (c.if-not-left_numbers.false)
+    (c.left_words.ensures ∙ ap (λ (z : ℕ). left_cells z a.words.now) c.zeros_after-2.ensures)
 
 pub judged_spec : {M : Type 1} → statement M
 judged_spec =

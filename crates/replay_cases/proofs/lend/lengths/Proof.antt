@@ -3,32 +3,32 @@ use borrow.Author.Tests.{eq-eqb, ne_eqb}
 use Rattle.replay_cases.proofs.lend.lengths.Statement.{statement}
 use Rattle.replay_cases.proofs.lend.lengths.Tie as tie
 
-returns : tie.Need-returns
-returns c = simp (eq-eqb _ _ c.before.before.if1.true)
+returns : tie.Need-returns-then-way-eq1
+returns c = simp (eq-eqb _ _ c.if-way-eq1.true)
 
-returns_2 : tie.Need-returns-2
-returns_2 c = simp (ne_eqb _ _ c.before.before.if1.false, eq-eqb _ _ c.before.if2.true, c.one_less.ensures)
+returns_2 : tie.Need-returns-then-way-eq2
+returns_2 c = simp (ne_eqb _ _ c.if-way-eq1.false, eq-eqb _ _ c.if-way-eq2.true, c.one_less.ensures)
 
-returns_3 : tie.Need-returns-3
+returns_3 : tie.Need-returns-then-way-eq3
 returns_3 c =
-    simp (ne_eqb _ _ c.before.before.before.if1.false, ne_eqb _ _ c.before.before.if2.false, eq-eqb _ _ c.before.if3.true, c.one-less2.ensures)
+    simp (ne_eqb _ _ c.if-way-eq1.false, ne_eqb _ _ c.if-way-eq2.false, eq-eqb _ _ c.if-way-eq3.true, c.one_less-then-way-eq3.ensures)
 
-returns_4 : tie.Need-returns-4
+returns_4 : tie.Need-returns-then-way-eq4
 returns_4 c =
     simp (
-      ne_eqb _ _ c.before.before.before.before.if1.false,
-      ne_eqb _ _ c.before.before.before.if2.false,
-      ne_eqb _ _ c.before.before.if3.false,
-      eq-eqb _ _ c.before.if4.true,
+      ne_eqb _ _ c.if-way-eq1.false,
+      ne_eqb _ _ c.if-way-eq2.false,
+      ne_eqb _ _ c.if-way-eq3.false,
+      eq-eqb _ _ c.if-way-eq4.true,
     )
 
-returns_5 : tie.Need-returns-5
+returns_5 : tie.Need-returns
 returns_5 c =
     simp (
-      ne_eqb _ _ c.before.before.before.if1.false,
-      ne_eqb _ _ c.before.before.if2.false,
-      ne_eqb _ _ c.before.if3.false,
-      ne_eqb _ _ c.if4.false,
+      ne_eqb _ _ c.if-way-eq1.false,
+      ne_eqb _ _ c.if-way-eq2.false,
+      ne_eqb _ _ c.if-way-eq3.false,
+      ne_eqb _ _ c.if-way-eq4.false,
     )
 
 pub lengths_spec : {M : Type 1} → statement M

@@ -6,32 +6,32 @@ use Rattle.replay_cases.proofs.Lending.{lent_lendable}
 use Rattle.replay_cases.proofs.lend.lent_as.Statement.{statement}
 use Rattle.replay_cases.proofs.lend.lent_as.Tie as tie
 
-returns : tie.Need-returns
+returns : tie.Need-returns-then-room-gt1021
 returns c =
-    let a = c.before.before.before.args in
-    let e : c.nothing.result ≡ lent_for a.way a.room = simp (lt-leb _ _ c.before.if1.true) c.nothing.ensures in
+    let a = c.args in
+    let e : c.nothing.result ≡ lent_for a.way a.room = simp (lt-leb _ _ c.if-room-gt1021.true) c.nothing.ensures in
     (e, rw e (lent_lendable a.way a.room))
 
-returns_2 : tie.Need-returns-2
+returns_2 : tie.Need-returns-then-room-gt65533
 returns_2 c =
-    let a = c.before.before.before.before.before.args in
-    let e : c.nothing2.result ≡ lent_for a.way a.room =
-    simp (le-leb _ _ c.before.before.before.if1.false, lt-leb _ _ c.before.if2.true) c.nothing2.ensures in
+    let a = c.args in
+    let e : c.nothing-then-room-gt65533.result ≡ lent_for a.way a.room =
+    simp (le-leb _ _ c.if-room-gt1021.false, lt-leb _ _ c.if-room-gt65533.true) c.nothing-then-room-gt65533.ensures in
     (e, rw e (lent_lendable a.way a.room))
 
-returns_3 : tie.Need-returns-3
+returns_3 : tie.Need-returns-then-room-gt1021-2
 returns_3 c =
-    let a = c.before.before.before.before.before.before.before.args in
-    let e : c.nothing3.result ≡ lent_for a.way a.room =
-    simp (le-leb _ _ c.before.before.before.before.before.if1.false, le-leb _ _ c.before.before.before.if2.false, lt-leb _ _ c.before.if3.true)
-    c.nothing3.ensures in
+    let a = c.args in
+    let e : c.nothing-then-room-gt1021-2.result ≡ lent_for a.way a.room =
+    simp (le-leb _ _ c.if-room-gt1021.false, le-leb _ _ c.if-room-gt65533.false, lt-leb _ _ c.if-room-gt1021-2.true)
+    c.nothing-then-room-gt1021-2.ensures in
     (e, rw e (lent_lendable a.way a.room))
 
-returns_4 : tie.Need-returns-4
+returns_4 : tie.Need-returns
 returns_4 c =
-    let a = c.before.before.before.before.before.before.before.args in
+    let a = c.args in
     let e : c.lengths.result ≡ lent_for a.way a.room =
-    simp (le-leb _ _ c.before.before.before.before.before.if1.false, le-leb _ _ c.before.before.before.if2.false, le-leb _ _ c.before.if3.false)
+    simp (le-leb _ _ c.if-room-gt1021.false, le-leb _ _ c.if-room-gt65533.false, le-leb _ _ c.if-room-gt1021-2.false)
     c.lengths.ensures in
     (e, rw e (lent_lendable a.way a.room))
 

@@ -4,38 +4,38 @@ use borrow.Author.Tests.{eq-eqb, ne_eqb}
 use Rattle.replay_cases.proofs.lend.wanted.Statement.{statement}
 use Rattle.replay_cases.proofs.lend.wanted.Tie as tie
 
-returns : tie.Need-returns
-returns c = simp (sym c.before.refuses.ensures, c.if1.true)
+returns : tie.Need-returns-then-refuses
+returns c = simp (sym c.refuses.ensures, c.if-refuses.true)
 
-returns_2 : tie.Need-returns-2
+returns_2 : tie.Need-returns-then-lacks
 returns_2 c =
     simp (
-      sym c.before.before.before.before.refuses.ensures,
-      c.before.before.before.if1.false,
-      sym c.before.before.lacks.ensures,
-      c.before.if2.true,
+      sym c.refuses.ensures,
+      c.if-refuses.false,
+      sym c.lacks.ensures,
+      c.if-lacks.true,
     )
     c.refusal.ensures
 
-returns_3 : tie.Need-returns-3
+returns_3 : tie.Need-returns-then-way-eq4
 returns_3 c =
     simp (
-      sym c.before.before.before.before.before.refuses.ensures,
-      c.before.before.before.before.if1.false,
-      sym c.before.before.before.lacks.ensures,
-      c.before.before.if2.false,
-      eq-eqb _ _ c.before.if3.true,
+      sym c.refuses.ensures,
+      c.if-refuses.false,
+      sym c.lacks.ensures,
+      c.if-lacks.false,
+      eq-eqb _ _ c.if-way-eq4.true,
     )
-    c.refusal2.ensures
+    c.refusal-then-way-eq4.ensures
 
-returns_4 : tie.Need-returns-4
+returns_4 : tie.Need-returns
 returns_4 c =
     simp (
-      sym c.before.before.before.before.refuses.ensures,
-      c.before.before.before.if1.false,
-      sym c.before.before.lacks.ensures,
-      c.before.if2.false,
-      ne_eqb _ _ c.if3.false,
+      sym c.refuses.ensures,
+      c.if-refuses.false,
+      sym c.lacks.ensures,
+      c.if-lacks.false,
+      ne_eqb _ _ c.if-way-eq4.false,
     )
 
 pub wanted_spec : {M : Type 1} → statement M

@@ -9,32 +9,32 @@ use Rattle.replay_cases.specs.Lists.{head_at}
 use Rattle.replay_cases.proofs.lists.head_at.Statement.{statement}
 use Rattle.replay_cases.proofs.lists.head_at.Tie as tie
 
-returns : tie.Need-returns
+returns : tie.Need-returns-then-end-at
 unfolding head_at
 returns c =
-    let a = c.before.before.before.args in
-    simp (lt-leb (a.at + 3) (length a.bytes.now) (omega arith)) c.no-list.ensures
+    let a = c.args in
+    simp (lt-leb (a.at + 3) (length a.bytes.now) (omega arith)) c.no_list.ensures
 
-returns_2 : tie.Need-returns-2
+returns_2 : tie.Need-returns-then-end-at-lt3
 unfolding head_at
 returns_2 c =
-    let a = c.before.before.before.before.args in
-    simp (lt-leb (a.at + 3) (length a.bytes.now) (omega arith)) c.no-list2.ensures
+    let a = c.args in
+    simp (lt-leb (a.at + 3) (length a.bytes.now) (omega arith)) c.no_list-then-end-at-lt3.ensures
 
-whole_list_requires : tie.Need-whole-list-requires
+whole_list_requires : tie.Need-whole_list-requires
 unfolding power
-whole_list_requires c κs = (c.before.read_number.ensures.1, c.read-number2.ensures.1, omega arith)
+whole_list_requires c κs = (c.read_number-width.ensures.1, c.read_number-count.ensures.1, omega arith)
 
-returns_3 : tie.Need-returns-3
+returns_3 : tie.Need-returns
 unfolding head_at
 returns_3 c =
-    let a = c.before.before.before.before.before.before.args in
+    let a = c.args in
     simp (
       le-leb (a.at + 3) (length a.bytes.now) (omega arith),
-      sym c.before.before.read_number.ensures.0,
-      sym c.before.read-number2.ensures.0,
+      sym c.read_number-width.ensures.0,
+      sym c.read_number-count.ensures.0,
     )
-    c.whole-list.ensures
+    c.whole_list.ensures
 
 pub head_at_spec : {M : Type 1} → statement M
 head_at_spec =

@@ -5,55 +5,55 @@ use Rattle.replay_cases.proofs.ListLoading.{head_fits, Loading, loading_begin, l
 use Rattle.replay_cases.proofs.lists.load_numbers.Statement.{statement}
 use Rattle.replay_cases.proofs.lists.load_numbers.Tie as tie
 
-abbrev invariant_loop : tie.invariant-loop
+abbrev invariant_loop : tie.invariant-loop-i
 invariant_loop bytes at out₀ width count p₀ i₀ out p i = Loading bytes p₀ width count out₀ p i out
 
-abbrev decreases_loop : tie.decreases-loop
+abbrev decreases_loop : tie.decreases-loop-i
 decreases_loop bytes at out₀ width count p₀ i₀ out p i = count - i
 
-returns : tie.Need-returns invariant_loop decreases_loop
+returns : tie.Need-returns-then-out-count invariant_loop decreases_loop
 returns c =
-    let a = c.before.before.before.before.before.args in
-    let h = c.before.before.head_at in
+    let a = c.args in
+    let h = c.head_at-head in
     ends_missing 4 a.at h.result a.bytes.now a.out.now c.broken.result h.ensures c.broken.ensures
-    (loads_short 4 _ h.result c.before.if1.true)
+    (loads_short 4 _ h.result c.if-out-count.true)
 
-returns_2 : tie.Need-returns-2 invariant_loop decreases_loop
+returns_2 : tie.Need-returns-then-width-gt4 invariant_loop decreases_loop
 returns_2 c =
-    let a = c.before.before.before.before.before.before.args in
-    let h = c.before.before.before.head_at in
-    ends_missing 4 a.at h.result a.bytes.now a.out.now c.broken2.result h.ensures c.broken2.ensures
-    (loads_wide 4 _ h.result c.before.if2.true)
+    let a = c.args in
+    let h = c.head_at-head in
+    ends_missing 4 a.at h.result a.bytes.now a.out.now c.broken-then-width-gt4.result h.ensures c.broken-then-width-gt4.ensures
+    (loads_wide 4 _ h.result c.if-width-gt4.true)
 
-loop_holds : tie.Need-loop-init invariant_loop decreases_loop
+loop_holds : tie.Need-loop-i-init invariant_loop decreases_loop
 loop_holds c =
-    let a = c.before.before.before.before.before.args in
-    let h = c.before.before.head_at in
+    let a = c.args in
+    let h = c.head_at-head in
     let f = head_fits a.at a.bytes.now in
     let e = h.ensures in
     let g = rw (← e) at f in
-    loading_begin a.bytes.now h.result.at h.result.width h.result.count a.out.now g.there g.narrow c.before.if1.false
+    loading_begin a.bytes.now h.result.at h.result.width h.result.count a.out.now g.there g.narrow c.if-out-count.false
 
-read_number_requires : tie.Need-read-number-requires invariant_loop decreases_loop
-read_number_requires c κs = let l = c.before.loop.invariant in (loading_room l c.loop-test.true, l.narrow)
+read_number_requires : tie.Need-read_number-requires invariant_loop decreases_loop
+read_number_requires c κs = let l = c.loop-i.invariant in (loading_room l c.loop-i-test.true, l.narrow)
 
-cast_out : tie.Need-overflow-cast-out invariant_loop decreases_loop
-cast_out c = let s = narrow_fits _ _ c.before.before.before.if2.false c.read_number.ensures.1 in search rules
+cast_out : tie.Need-overflow_cast-out invariant_loop decreases_loop
+cast_out c = let s = narrow_fits _ _ c.if-width-gt4.false c.read_number.ensures.1 in search rules
 
-add_p : tie.Need-overflow-add-p invariant_loop decreases_loop
-add_p c = let r = loading_room c.before.before.loop.invariant c.before.loop-test.true in search rules
+add_p : tie.Need-overflow_add-p invariant_loop decreases_loop
+add_p c = let r = loading_room c.loop-i.invariant c.loop-i-test.true in search rules
 
-loop_again : tie.Need-loop-preserved invariant_loop decreases_loop
-loop_again c = loading_turn c.before.before.loop.invariant c.before.loop-test.true c.read_number.ensures.0
+loop_again : tie.Need-loop-i-preserved invariant_loop decreases_loop
+loop_again c = loading_turn c.loop-i.invariant c.loop-i-test.true c.read_number.ensures.0
 
-returns_3 : tie.Need-returns-3 invariant_loop decreases_loop
+returns_3 : tie.Need-returns invariant_loop decreases_loop
 returns_3 c =
-    let a = c.before.before.before.before.before.before.before.args in
-    let h = c.before.before.before.before.head_at in
-    let l = c.before.loop in
-    let s = c.before.before.before.if1.false in
-    ends_loaded 4 a.at h.result a.bytes.now a.out.now l.out l.p h.ensures (loads_fit 4 _ h.result s c.before.before.if2.false) s
-    (loading_end l.invariant c.loop-test.false)
+    let a = c.args in
+    let h = c.head_at-head in
+    let l = c.loop-i in
+    let s = c.if-out-count.false in
+    ends_loaded 4 a.at h.result a.bytes.now a.out.now l.out l.p h.ensures (loads_fit 4 _ h.result s c.if-width-gt4.false) s
+    (loading_end l.invariant c.loop-i-test.false)
 
 pub load_numbers_spec : {M : Type 1} → statement M
 load_numbers_spec =

@@ -4,44 +4,44 @@ use Rattle.replay_cases.proofs.ListLoading.{head_fits, Loading, loading_begin, l
 use Rattle.replay_cases.proofs.lists.load_words.Statement.{statement}
 use Rattle.replay_cases.proofs.lists.load_words.Tie as tie
 
-abbrev invariant_loop : tie.invariant-loop
+abbrev invariant_loop : tie.invariant-loop-i
 invariant_loop bytes at out₀ width count p₀ i₀ out p i = Loading bytes p₀ width count out₀ p i out
 
-abbrev decreases_loop : tie.decreases-loop
+abbrev decreases_loop : tie.decreases-loop-i
 decreases_loop bytes at out₀ width count p₀ i₀ out p i = count - i
 
-returns : tie.Need-returns invariant_loop decreases_loop
+returns : tie.Need-returns-then-out-count invariant_loop decreases_loop
 returns c =
-    let a = c.before.before.before.before.before.args in
-    let h = c.before.before.head_at in
+    let a = c.args in
+    let h = c.head_at-head in
     ends_missing 8 a.at h.result a.bytes.now a.out.now c.broken.result h.ensures c.broken.ensures
-    (loads_short 8 _ h.result c.before.if1.true)
+    (loads_short 8 _ h.result c.if-out-count.true)
 
-loop_holds : tie.Need-loop-init invariant_loop decreases_loop
+loop_holds : tie.Need-loop-i-init invariant_loop decreases_loop
 loop_holds c =
-    let a = c.before.before.before.before.args in
-    let h = c.before.head_at in
+    let a = c.args in
+    let h = c.head_at-head in
     let f = head_fits a.at a.bytes.now in
     let e = h.ensures in
     let g = rw (← e) at f in
-    loading_begin a.bytes.now h.result.at h.result.width h.result.count a.out.now g.there g.narrow c.if1.false
+    loading_begin a.bytes.now h.result.at h.result.width h.result.count a.out.now g.there g.narrow c.if-out-count.false
 
-read_number_requires : tie.Need-read-number-requires invariant_loop decreases_loop
-read_number_requires c κs = let l = c.before.loop.invariant in (loading_room l c.loop-test.true, l.narrow)
+read_number_requires : tie.Need-read_number-requires invariant_loop decreases_loop
+read_number_requires c κs = let l = c.loop-i.invariant in (loading_room l c.loop-i-test.true, l.narrow)
 
-add_p : tie.Need-overflow-add-p invariant_loop decreases_loop
-add_p c = let r = loading_room c.before.before.loop.invariant c.before.loop-test.true in search rules
+add_p : tie.Need-overflow_add-p invariant_loop decreases_loop
+add_p c = let r = loading_room c.loop-i.invariant c.loop-i-test.true in search rules
 
-loop_again : tie.Need-loop-preserved invariant_loop decreases_loop
-loop_again c = loading_turn c.before.before.loop.invariant c.before.loop-test.true c.read_number.ensures.0
+loop_again : tie.Need-loop-i-preserved invariant_loop decreases_loop
+loop_again c = loading_turn c.loop-i.invariant c.loop-i-test.true c.read_number.ensures.0
 
-returns_2 : tie.Need-returns-2 invariant_loop decreases_loop
+returns_2 : tie.Need-returns invariant_loop decreases_loop
 returns_2 c =
-    let a = c.before.before.before.before.before.before.args in
-    let h = c.before.before.before.head_at in
-    let l = c.before.loop in
+    let a = c.args in
+    let h = c.head_at-head in
+    let l = c.loop-i in
     ends_loaded 8 a.at h.result a.bytes.now a.out.now l.out l.p h.ensures
-    (loads_fit 8 _ h.result c.before.before.if1.false l.invariant.narrow) c.before.before.if1.false (loading_end l.invariant c.loop-test.false)
+    (loads_fit 8 _ h.result c.if-out-count.false l.invariant.narrow) c.if-out-count.false (loading_end l.invariant c.loop-i-test.false)
 
 pub load_words_spec : {M : Type 1} → statement M
 load_words_spec =

@@ -4,12 +4,12 @@ use borrow.Author.Tests.{eq-eqb, ne_eqb}
 use Rattle.replay_cases.proofs.said.agrees.Statement.{statement}
 use Rattle.replay_cases.proofs.said.agrees.Tie as tie
 
-returns : tie.Need-returns
+returns : tie.Need-returns-then-number-said
 returns c =
-    simp (sym c.before.before.before.place.ensures, sym c.before.before.before.before.number.ensures, eq-eqb _ _ c.before.if1.true)
+    simp (sym c.place-place.ensures, sym c.number-number.ensures, eq-eqb _ _ c.if-number-said.true)
 
-returns_2 : tie.Need-returns-2
-returns_2 c = simp (sym c.before.before.before.number.ensures, ne_eqb _ _ c.if1.false)
+returns_2 : tie.Need-returns
+returns_2 c = simp (sym c.number-number.ensures, ne_eqb _ _ c.if-number-said.false)
 
 pub agrees_spec : {M : Type 1} → statement M
 agrees_spec =

@@ -4,8 +4,8 @@ use borrow.Author.Rules.{rules}
 use Rattle.replay_cases.proofs.said.number_at.Statement.{statement}
 use Rattle.replay_cases.proofs.said.number_at.Tie as tie
 
-returns_2 : tie.Need-returns-2
-returns_2 c = sym (get_or-eq_default c.before.args.list.now 0 c.if1.false)
+returns_2 : tie.Need-returns
+returns_2 c = sym (get_or-eq_default c.args.list.now 0 c.if-i-list.false)
 
 pub number_at_spec : {M : Type 1} → statement M
 number_at_spec =

@@ -5,14 +5,14 @@ use borrow.Author.Rules.{rules}
 use Rattle.replay_graphs.proofs.graphs.graph_run.Statement.{statement}
 use Rattle.replay_graphs.proofs.graphs.graph_run.Tie as tie
 
-abbrev invariant_loop : tie.invariant-loop
+abbrev invariant_loop : tie.invariant-loop-i
 invariant_loop calls replies edges₀ degrees₀ count graph₀ i₀ edges degrees graph i = (i ≤ count) × (count < 18446744073709551616) × (4 * count ≤ length calls) × (length edges ≡ length edges₀) × (length degrees ≡ length degrees₀)
 
-abbrev decreases_loop : tie.decreases-loop
+abbrev decreases_loop : tie.decreases-loop-i
 decreases_loop calls replies edges₀ degrees₀ count graph₀ i₀ edges degrees graph i = count - i
 
-add_i : tie.Need-overflow-add-i invariant_loop decreases_loop
-add_i c = let h = c.before.before.before.before.before.before.before.before.before.before.before.before.before.before.before.before.loop-test.true in let v = c.before.before.before.before.before.before.before.before.before.before.before.before.before.before.before.before.before.loop.invariant in search rules
+add_i : tie.Need-overflow_add-i-in-loop-i-3 invariant_loop decreases_loop
+add_i c = let h = c.loop-i-test.true in let v = c.loop-i.invariant in search rules
 
 pub graph_run_spec : {M : Type 1} → statement M
 graph_run_spec =

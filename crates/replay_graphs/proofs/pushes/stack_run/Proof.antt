@@ -5,10 +5,10 @@ use borrow.Author.Rules.{rules}
 use Rattle.replay_graphs.proofs.pushes.stack_run.Statement.{statement}
 use Rattle.replay_graphs.proofs.pushes.stack_run.Tie as tie
 
-abbrev invariant_loop : tie.invariant-loop
+abbrev invariant_loop : tie.invariant-loop-i
 invariant_loop double calls replies stack₀ count head₀ i₀ stack head i = (i ≤ count) × (4 * count ≤ length calls) × (length stack ≡ length stack₀)
 
-abbrev decreases_loop : tie.decreases-loop
+abbrev decreases_loop : tie.decreases-loop-i
 decreases_loop double calls replies stack₀ count head₀ i₀ stack head i = count - i
 
 pub stack_run_spec : {M : Type 1} → statement M

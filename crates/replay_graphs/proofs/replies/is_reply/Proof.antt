@@ -8,35 +8,35 @@ use Rattle.replay_graphs.proofs.Replying.{third_decides}
 use Rattle.replay_graphs.proofs.replies.is_reply.Statement.{statement}
 use Rattle.replay_graphs.proofs.replies.is_reply.Tie as tie
 
-returns : tie.Need-returns
-returns c = let a = c.before.before.args in simp (lt-leb (a.at + 3) (length a.replies.now) (omega arith))
+returns : tie.Need-returns-then-replies-lt3
+returns c = let a = c.args in simp (lt-leb (a.at + 3) (length a.replies.now) (omega arith))
 
-returns_2 : tie.Need-returns-2
-returns_2 c = let a = c.before.before.before.args in simp (lt-leb (a.at + 3) (length a.replies.now) (omega arith))
+returns_2 : tie.Need-returns-then-replies-at
+returns_2 c = let a = c.args in simp (lt-leb (a.at + 3) (length a.replies.now) (omega arith))
 
-returns_3 : tie.Need-returns-3
+returns_3 : tie.Need-returns-then-reply-number_at
 returns_3 c =
-    let a = c.before.before.before.before.before.before.args in
-    simp (le-leb (a.at + 3) (length a.replies.now) (omega arith), sym c.before.before.number_at.ensures, ne_eqb _ _ c.if3.true)
+    let a = c.args in
+    simp (le-leb (a.at + 3) (length a.replies.now) (omega arith), sym c.number_at.ensures, ne_eqb _ _ c.if-reply-number_at.true)
 
-returns_4 : tie.Need-returns-4
+returns_4 : tie.Need-returns-then-reply-number_at-2
 returns_4 c =
-    let a = c.before.before.before.before.before.before.before.before.before.args in
+    let a = c.args in
     simp (
       le-leb (a.at + 3) (length a.replies.now) (omega arith),
-      sym c.before.before.before.before.before.number_at.ensures,
-      eq-eqb _ _ c.before.before.before.if3.false,
-      sym c.before.before.number-at2.ensures,
-      ne_eqb _ _ c.if4.true,
+      sym c.number_at.ensures,
+      eq-eqb _ _ c.if-reply-number_at.false,
+      sym c.number_at-2.ensures,
+      ne_eqb _ _ c.if-reply-number_at-2.true,
     )
 
-returns_5 : tie.Need-returns-5
+returns_5 : tie.Need-returns
 returns_5 c =
-    let a = c.before.before.before.before.before.before.before.before.before.before.before.args in
-    let third = c.before.number-at3.ensures in
-    let second = c.before.before.before.before.number-at2.ensures in
-    let first = c.before.before.before.before.before.before.before.number_at.ensures in
-    third_decides a.reply a.replies.now a.at _ _ _ (omega arith) first second third c.before.before.before.before.before.if3.false c.before.before.if4.false
+    let a = c.args in
+    let third = c.number_at-3.ensures in
+    let second = c.number_at-2.ensures in
+    let first = c.number_at.ensures in
+    third_decides a.reply a.replies.now a.at _ _ _ (omega arith) first second third c.if-reply-number_at.false c.if-reply-number_at-2.false
 
 pub is_reply_spec : {M : Type 1} → statement M
 is_reply_spec =

@@ -4,14 +4,14 @@ use Rattle.replay_graphs.specs.Replies.{popped_reply}
 use Rattle.replay_graphs.proofs.replies.popped.Statement.{statement}
 use Rattle.replay_graphs.proofs.replies.popped.Tie as tie
 
-returns : tie.Need-returns
-returns c = c.valued.ensures ∙ sym (ap popped_reply c.before.before.got.given.1)
+returns : tie.Need-returns-in-Got
+returns c = c.valued.ensures ∙ sym (ap popped_reply c.in-Got.is)
 
-returns_2 : tie.Need-returns-2
-returns_2 c = sym (ap popped_reply c.enum_told.given.1)
+returns_2 : tie.Need-returns-in-Empty
+returns_2 c = sym (ap popped_reply c.in-Empty.is)
 
-returns_3 : tie.Need-returns-3
-returns_3 c = c.told.ensures ∙ sym (ap popped_reply c.before.before.got2.given.1)
+returns_3 : tie.Need-returns-in-Refused
+returns_3 c = c.told.ensures ∙ sym (ap popped_reply c.in-Refused.is)
 
 pub popped_spec : {M : Type 1} → statement M
 popped_spec =

@@ -13,4 +13,4 @@ exchange_eight_spec =
     (λ c. search rules)  -- add-exchange-four-2
     (λ c κs. search rules)  -- exchange-four-requires-2
     (λ c. search rules)  -- same-length
-    (λ c. let s = c.before.before.before.before.before.before.before.before.before in twice_done 4 _ _ _ _ _ s.requires.0 s.requires.1 c.before.before.before.before.before.before.exchange-four.ensures c.before.before.exchange-four2.ensures))
+    (λ c. let s = c in twice_done 4 _ _ _ _ _ s.requires.0 s.requires.1 c.exchange_four.ensures c.exchange_four-2.ensures))

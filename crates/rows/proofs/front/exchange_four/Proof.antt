@@ -55,4 +55,4 @@ exchange_four_spec =
     (λ c. search rules)  -- mul-numbers-8
     (λ c. simp length-set (omega arith))  -- slice-write-numbers-8
     (λ c. simp length-set)  -- same-length
-    (λ c. let s = c.before.before.before.before.before.before.before.before in four_done _ _ _ s.requires.0 s.requires.1))
+    (λ c. let s = c in four_done _ _ _ s.requires.0 s.requires.1))

@@ -7,10 +7,10 @@ use Rattle.rows.proofs.Fronting.{Fronting, none_done, front_begin, front_turn, f
 use Rattle.rows.proofs.front.exchange_front.Statement.{statement}
 use Rattle.rows.proofs.front.exchange_front.Tie as tie
 
-abbrev invariant_loop : tie.invariant-loop
+abbrev invariant_loop : tie.invariant-loop-i
 invariant_loop numbers₀ p q k n i₀ numbers i = Fronting numbers₀ p q n 0 i numbers
 
-abbrev decreases_loop : tie.decreases-loop
+abbrev decreases_loop : tie.decreases-loop-i
 decreases_loop numbers₀ p q k n i₀ numbers i = k - i
 
 pub exchange_front_spec : {M : Type 1} → statement M
@@ -29,6 +29,6 @@ exchange_front_spec =
     (λ c κs. search rules)  -- exchange-some-requires
     (λ c. search rules)  -- add-i
     (λ c. search rules)  -- loop-less
-    (λ c. let s = c.before.before.before.before.before.before.before.before in front_turn c.before.before.before.before.before.loop.invariant (omega (arith, c.before.before.before.before.loop-test.true, s.requires.0)) c.before.before.exchange-some.ensures c.before.numbers2.given)  -- loop-again
+    (λ c. let s = c in front_turn c.loop-i.invariant (omega (arith, c.loop-i-test.true, s.requires.0)) c.exchange_some-i.ensures c.numbers-in-loop-i-1.given)  -- loop-again
     (λ c. search rules)  -- same-length-2
-    (λ c. front_end (none_done _ _ _ _) c.before.loop.invariant refl c.loop-test.false))
+    (λ c. front_end (none_done _ _ _ _) c.loop-i.invariant refl c.loop-i-test.false))

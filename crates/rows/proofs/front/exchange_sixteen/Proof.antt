@@ -13,4 +13,4 @@ exchange_sixteen_spec =
     (λ c. search rules)  -- add-exchange-eight-2
     (λ c κs. search rules)  -- exchange-eight-requires-2
     (λ c. search rules)  -- same-length
-    (λ c. let s = c.before.before.before.before.before.before.before.before.before in twice_done 8 _ _ _ _ _ s.requires.0 s.requires.1 c.before.before.before.before.before.before.exchange-eight.ensures c.before.before.exchange-eight2.ensures))
+    (λ c. let s = c in twice_done 8 _ _ _ _ _ s.requires.0 s.requires.1 c.exchange_eight.ensures c.exchange_eight-2.ensures))

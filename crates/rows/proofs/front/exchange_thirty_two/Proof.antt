@@ -13,4 +13,4 @@ exchange_thirty_two_spec =
     (λ c. search rules)  -- add-exchange-sixteen-2
     (λ c κs. search rules)  -- exchange-sixteen-requires-2
     (λ c. search rules)  -- same-length
-    (λ c. let s = c.before.before.before.before.before.before.before.before.before in twice_done 16 _ _ _ _ _ s.requires.0 s.requires.1 c.before.before.before.before.before.before.exchange-sixteen.ensures c.before.before.exchange-sixteen2.ensures))
+    (λ c. let s = c in twice_done 16 _ _ _ _ _ s.requires.0 s.requires.1 c.exchange_sixteen.ensures c.exchange_sixteen-2.ensures))

@@ -7,49 +7,49 @@ use Rattle.slow_dense.proofs.ClearingColumns.{ClearingColumns, columns_begin, co
 use Rattle.slow_dense.proofs.columns.clear_columns.Statement.{statement}
 use Rattle.slow_dense.proofs.columns.clear_columns.Tie as tie
 
-abbrev invariant_loop : tie.invariant-loop
+abbrev invariant_loop : tie.invariant-loop-col
 invariant_loop n m w numbers₀ words₀ rank₀ col₀ numbers words rank col = ClearingColumns n m w numbers₀ words₀ rank col numbers words
 
-abbrev decreases_loop : tie.decreases-loop
+abbrev decreases_loop : tie.decreases-loop-col
 decreases_loop n m w numbers₀ words₀ rank₀ col₀ numbers words rank col = n - col
 
 -- what the search answered, by the arm that was taken
-take_pivot_requires : tie.Need-take-pivot-requires invariant_loop decreases_loop
+take_pivot_requires : tie.Need-take_pivot-requires invariant_loop decreases_loop
 take_pivot_requires c κs =
-    let l = c.before.before.before.before.before.before.before in
-    let h = columns_place l.loop.invariant (sym c.before.before.pivot.given.1 ∙ c.before.before.before.before.find-pivot.ensures) in
+    let l = c in
+    let h = columns_place l.loop-col.invariant (sym c.in-At.is ∙ c.find_pivot.ensures) in
     search rules
 
-clear_above_requires : tie.Need-clear-above-requires invariant_loop decreases_loop
+clear_above_requires : tie.Need-clear_above-requires invariant_loop decreases_loop
 clear_above_requires c κs =
-    let l = c.before.before.before.before.before.before.before.before.before.before.before in
-    let h = columns_place l.loop.invariant (sym c.before.before.before.before.before.before.pivot.given.1 ∙ c.before.before.before.before.before.before.before.before.find-pivot.ensures) in
+    let l = c in
+    let h = columns_place l.loop-col.invariant (sym c.in-At.is ∙ c.find_pivot.ensures) in
     search rules
 
-mul_numbers : tie.Need-overflow-mul-numbers invariant_loop decreases_loop
+mul_numbers : tie.Need-offset_bounds-numbers-rank invariant_loop decreases_loop
 mul_numbers c =
-    let l = c.before.before.before.before.before.before.before.before.before.before.before.before.before.before in
-    let h = columns_place l.loop.invariant (sym c.before.before.before.before.before.before.before.before.before.pivot.given.1 ∙ c.before.before.before.before.before.before.before.before.before.before.before.find-pivot.ensures) in
+    let l = c in
+    let h = columns_place l.loop-col.invariant (sym c.in-At.is ∙ c.find_pivot.ensures) in
     search rules
 
-slice_write_numbers : tie.Need-slice-write-numbers invariant_loop decreases_loop
+slice_write_numbers : tie.Need-bounds-numbers-rank invariant_loop decreases_loop
 slice_write_numbers c =
-    let l = c.before.before.before.before.before.before.before.before.before.before.before.before.before.before in
-    let h = columns_place l.loop.invariant (sym c.before.before.before.before.before.before.before.before.before.pivot.given.1 ∙ c.before.before.before.before.before.before.before.before.before.before.before.find-pivot.ensures) in
+    let l = c in
+    let h = columns_place l.loop-col.invariant (sym c.in-At.is ∙ c.find_pivot.ensures) in
     search rules
 
-add_rank : tie.Need-overflow-add-rank invariant_loop decreases_loop
+add_rank : tie.Need-overflow_add-rank invariant_loop decreases_loop
 add_rank c =
-    let l = c.before.before.before.before.before.before.before.before.before.before.before.before.before.before in
-    let h = columns_place l.loop.invariant (sym c.before.before.before.before.before.before.before.before.before.pivot.given.1 ∙ c.before.before.before.before.before.before.before.before.before.before.before.find-pivot.ensures) in
+    let l = c in
+    let h = columns_place l.loop-col.invariant (sym c.in-At.is ∙ c.find_pivot.ensures) in
     search rules
 
-loop_again_2 : tie.Need-loop-preserved-2 invariant_loop decreases_loop
+loop_again_2 : tie.Need-loop-col-preserved invariant_loop decreases_loop
 loop_again_2 c =
-    let l = c.before.before.before.before.before.before.before.before.before.before.before.before.before.before in
-    columns_turn l.loop.invariant c.before.before.before.before.before.before.before.before.before.before.before.before.before.loop-test.true
-    (sym c.before.before.before.before.before.before.before.before.before.pivot.given.1 ∙ c.before.before.before.before.before.before.before.before.before.before.before.find-pivot.ensures)
-    c.before.before.before.before.before.before.take-pivot.ensures c.before.before.Clear-above.ensures
+    let l = c in
+    columns_turn l.loop-col.invariant c.loop-col-test.true
+    (sym c.in-At.is ∙ c.find_pivot.ensures)
+    c.take_pivot.ensures c.clear_above.ensures
 
 pub clear_columns_spec : {M : Type 1} → statement M
 clear_columns_spec =
@@ -63,7 +63,7 @@ clear_columns_spec =
     (λ c. search rules)  -- enum_told
     (λ c. search rules)  -- add-col
     (λ c. search rules)  -- loop-less
-    (λ c. columns_skip c.before.before.before.before.before.loop.invariant c.before.before.before.before.loop-test.true (sym c.enum_told.given.1 ∙ c.before.before.find-pivot.ensures))  -- loop-again
+    (λ c. columns_skip c.loop-col.invariant c.loop-col-test.true (sym c.in_default.is ∙ c.find_pivot.ensures))  -- loop-again
     take_pivot_requires
     clear_above_requires
     (λ c. search rules)  -- cast-numbers
@@ -75,4 +75,4 @@ clear_columns_spec =
     loop_again_2
     (λ c. search rules)  -- same-length
     (λ c. search rules)  -- same-length-2
-    (λ c. columns_end c.before.loop.invariant c.loop-test.false))
+    (λ c. columns_end c.loop-col.invariant c.loop-col-test.false))

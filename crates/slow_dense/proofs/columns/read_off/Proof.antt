@@ -6,10 +6,10 @@ use Rattle.slow_dense.proofs.ReadingPivots.{ReadingPivots, reading_begin, readin
 use Rattle.slow_dense.proofs.columns.read_off.Statement.{statement}
 use Rattle.slow_dense.proofs.columns.read_off.Tie as tie
 
-abbrev invariant_loop : tie.invariant-loop
+abbrev invariant_loop : tie.invariant-loop-i
 invariant_loop words m w numbers rank solution₀ i₀ solution i = ReadingPivots words m w numbers rank solution₀ i solution
 
-abbrev decreases_loop : tie.decreases-loop
+abbrev decreases_loop : tie.decreases-loop-i
 decreases_loop words m w numbers rank solution₀ i₀ solution i = rank - i
 
 pub read_off_spec : {M : Type 1} → statement M
@@ -21,15 +21,15 @@ read_off_spec =
     (λ c. search (rules, reading_begin))  -- loop-holds
     (λ c. search rules)  -- mul-pivot
     (λ c. search rules)  -- shared-slice-read-pivot
-    (λ c. omega (arith, c.shared-slice-known.given c.before.before.loop.i))  -- cast-pivot
-    (λ c. let h = reading_constant c.before.before.loop.invariant c.before.loop-test.true in search rules)  -- mul-solution
-    (λ c. let h = reading_constant c.before.before.loop.invariant c.before.loop-test.true in search rules)  -- add-solution
-    (λ c. let h = reading_constant c.before.before.loop.invariant c.before.loop-test.true in search rules)  -- mul-solution-2
-    (λ c. let h = reading_constant c.before.before.before.loop.invariant c.before.before.loop-test.true in search rules)  -- shared-slice-read-solution
-    (λ c. let h = reading_cell c.before.before.before.loop.invariant c.before.before.loop-test.true in search rules)  -- mul-solution-3
-    (λ c. let h = reading_cell c.before.before.before.loop.invariant c.before.before.loop-test.true in search rules)  -- slice-write-solution
+    (λ c. omega (arith, c.shared_slice_known-1.given c.loop-i.i))  -- cast-pivot
+    (λ c. let h = reading_constant c.loop-i.invariant c.loop-i-test.true in search rules)  -- mul-solution
+    (λ c. let h = reading_constant c.loop-i.invariant c.loop-i-test.true in search rules)  -- add-solution
+    (λ c. let h = reading_constant c.loop-i.invariant c.loop-i-test.true in search rules)  -- mul-solution-2
+    (λ c. let h = reading_constant c.loop-i.invariant c.loop-i-test.true in search rules)  -- shared-slice-read-solution
+    (λ c. let h = reading_cell c.loop-i.invariant c.loop-i-test.true in search rules)  -- mul-solution-3
+    (λ c. let h = reading_cell c.loop-i.invariant c.loop-i-test.true in search rules)  -- slice-write-solution
     (λ c. search rules)  -- add-i
     (λ c. search rules)  -- loop-less
-    (λ c. reading_turn c.before.before.before.loop.invariant c.before.before.loop-test.true)  -- loop-again
+    (λ c. reading_turn c.loop-i.invariant c.loop-i-test.true)  -- loop-again
     (λ c. search rules)  -- same-length
     (λ c. search (rules, reading_end)))

@@ -13,13 +13,13 @@ lent : (s : tie.Start) → DenseFits s.args.n s.args.m s.args.w s.args.rows.now 
 lent s = dense_kept_sound s.args.n s.args.m s.args.w s.args.rows.now s.args.constants.now s.requires.0
 
 -- a constant was left
-returns : tie.Need-returns
+returns : tie.Need-returns-then-constant_left
 returns c =
-    let s = c.before.before.before.before.before.before.before.before.before.before.before.before.before.before.before.before.before.before.before.before.before.before.before.before.before.before in
-    let l = c.before.before.before.before.before.before.before.before.before.before.before.before.before.before.before.before.before.before.before.load.ensures in
-    let e = c.before.before.before.before.before.before.before.before.before.before.before.before.before.before.clear-columns.ensures in
-    let r = c.before.before.before.before.clear-Room.ensures in
-    rw (slow_refused s.args.rows.now s.args.constants.now l e (sym c.before.before.before.before.before.before.before.before.constant-left.ensures ∙ c.before.before.before.before.before.before.before.if1.true)) (
+    let s = c in
+    let l = c.load.ensures in
+    let e = c.clear_columns-rank.ensures in
+    let r = c.clear_room.ensures in
+    rw (slow_refused s.args.rows.now s.args.constants.now l e (sym c.constant_left.ensures ∙ c.if-constant_left.true)) (
       refl,
       (
         refl,
@@ -30,25 +30,25 @@ returns c =
       ),
     )
 
-read_off_requires : tie.Need-read-off-requires
+read_off_requires : tie.Need-read_off-requires
 read_off_requires c κs =
-    let s = c.before.before.before.before.before.before.before.before.before.before.before.before.before.before.before.before.before.before.before.before.before.before.before.before.before.before in
-    let l = c.before.before.before.before.before.before.before.before.before.before.before.before.before.before.before.before.before.before.before.load.ensures in
-    let e = c.before.before.before.before.before.before.before.before.before.before.before.before.before.before.clear-columns.ensures in
-    let z = zeroed_length s.args.n s.args.solution.now _ s.requires.1 c.before.before.before.before.before.zero-words.ensures in
+    let s = c in
+    let l = c.load.ensures in
+    let e = c.clear_columns-rank.ensures in
+    let z = zeroed_length s.args.n s.args.solution.now _ s.requires.1 c.zero_words.ensures in
     (e.ranked, omega (arith, e, s.requires), omega (arith, e, l, s.requires), rw z e.pivots_below)
 
 -- none was left
-returns_2 : tie.Need-returns-2
+returns_2 : tie.Need-returns
 returns_2 c =
-    let s = c.before.before.before.before.before.before.before.before.before.before.before.before.before.before.before.before.before.before.before.before.before.before.before.before.before.before.before.before.before.before.before.before.before.before.before.before in
-    let l = c.before.before.before.before.before.before.before.before.before.before.before.before.before.before.before.before.before.before.before.before.before.before.before.before.before.before.before.before.before.load.ensures in
-    let e = c.before.before.before.before.before.before.before.before.before.before.before.before.before.before.before.before.before.before.before.before.before.before.before.before.clear-columns.ensures in
-    let r = c.before.before.before.before.clear-room2.ensures in
-    rw (slow_solved s.args.rows.now s.args.constants.now l e (sym c.before.before.before.before.before.before.before.before.before.before.before.before.before.before.before.before.before.before.constant-left.ensures ∙ c.before.before.before.before.before.before.before.before.before.before.before.before.before.before.before.before.before.if1.false)) (
+    let s = c in
+    let l = c.load.ensures in
+    let e = c.clear_columns-rank.ensures in
+    let r = c.clear_room-2.ensures in
+    rw (slow_solved s.args.rows.now s.args.constants.now l e (sym c.constant_left.ensures ∙ c.if-constant_left.false)) (
       refl,
       (
-        slow_filled s.args.n _ s.args.solution.now _ _ s.requires.1 c.before.before.before.before.before.before.before.before.before.before.before.before.before.before.before.zero-words.ensures c.before.before.before.before.before.before.before.before.before.read_off.ensures,
+        slow_filled s.args.n _ s.args.solution.now _ _ s.requires.1 c.zero_words.ensures c.read_off.ensures,
         (
           r.0 ∙ slow_numbers s.args.rows.now s.args.constants.now l e,
           r.1 ∙ slow_words s.args.rows.now s.args.constants.now l e,

@@ -7,10 +7,10 @@ use native.Mathlib.Omega.{arith}
 use Rattle.sparse_rows.proofs.back.any_unsolvable.Statement.{statement}
 use Rattle.sparse_rows.proofs.back.any_unsolvable.Tie as tie
 
-abbrev invariant_loop : tie.invariant-loop
+abbrev invariant_loop : tie.invariant-loop-i
 invariant_loop numbers words n m d i₀ i = Checking (rows_of n m numbers words) d i
 
-abbrev decreases_loop : tie.decreases-loop
+abbrev decreases_loop : tie.decreases-loop-i
 decreases_loop numbers words n m d i₀ i = d - i
 
 pub any_unsolvable_spec : {M : Type 1} → statement M
@@ -19,10 +19,10 @@ any_unsolvable_spec =
     (tie.spec
     invariant_loop
     decreases_loop
-    (λ c. let s = c.before.before in checking_begin _ _ (omega (arith, s.requires.0.count, s.requires.1)))  -- loop-holds
-    (λ c κs. let s = c.before.before.before.before in (s.requires.0, omega (arith, s.requires.1, c.loop-test.true)))  -- is-unsolvable-requires
-    (λ c. checking_stop c.before.before.before.loop.invariant c.before.before.loop-test.true c.before.is-unsolvable.ensures c.if1.true)  -- returns
+    (λ c. let s = c in checking_begin _ _ (omega (arith, s.requires.0.count, s.requires.1)))  -- loop-holds
+    (λ c κs. let s = c in (s.requires.0, omega (arith, s.requires.1, c.loop-i-test.true)))  -- is-unsolvable-requires
+    (λ c. checking_stop c.loop-i.invariant c.loop-i-test.true c.is_unsolvable.ensures c.if-is_unsolvable.true)  -- returns
     (λ c. search rules)  -- add-i
     (λ c. search rules)  -- loop-less
-    (λ c. checking_turn c.before.before.before.loop.invariant c.before.before.loop-test.true c.before.is-unsolvable.ensures c.if1.false)  -- loop-again
-    (λ c. checking_end c.before.loop.invariant c.loop-test.false))
+    (λ c. checking_turn c.loop-i.invariant c.loop-i-test.true c.is_unsolvable.ensures c.if-is_unsolvable.false)  -- loop-again
+    (λ c. checking_end c.loop-i.invariant c.loop-i-test.false))

@@ -7,10 +7,10 @@ use native.Mathlib.Omega.{arith}
 use Rattle.sparse_rows.proofs.back.back_substitution.Statement.{statement}
 use Rattle.sparse_rows.proofs.back.back_substitution.Tie as tie
 
-abbrev invariant_loop : tie.invariant-loop
+abbrev invariant_loop : tie.invariant-loop-i
 invariant_loop numbers words n m d solution₀ i₀ solution i = Backing (rows_of n m numbers words) d solution₀ solution i
 
-abbrev decreases_loop : tie.decreases-loop
+abbrev decreases_loop : tie.decreases-loop-i
 decreases_loop numbers words n m d solution₀ i₀ solution i = i
 
 pub back_substitution_spec : {M : Type 1} → statement M
@@ -19,11 +19,11 @@ back_substitution_spec =
     (tie.spec
     invariant_loop
     decreases_loop
-    (λ c. let s = c.before.before.before in backing_begin _ _ _ (omega (arith, s.requires.0.count, s.requires.1)))  -- loop-holds
+    (λ c. let s = c in backing_begin _ _ _ (omega (arith, s.requires.0.count, s.requires.1)))  -- loop-holds
     (λ c. search rules)  -- sub-pin-row
-    (λ c κs. let s = c.before.before.before.before.before.before in (s.requires.0, omega (arith, c.before.before.loop.invariant.within, s.requires.1, c.before.loop-test.true), c.before.before.loop.invariant.size ∙ s.requires.2))  -- pin-row-requires
+    (λ c κs. let s = c in (s.requires.0, omega (arith, c.loop-i.invariant.within, s.requires.1, c.loop-i-test.true), c.loop-i.invariant.size ∙ s.requires.2))  -- pin-row-requires
     (λ c. search rules)  -- sub-i
     (λ c. search rules)  -- loop-less
-    (λ c. backing_turn _ c.before.before.before.before.before.loop.invariant c.before.before.before.before.loop-test.true c.before.before.pin-row.ensures (search rules))  -- loop-again
+    (λ c. backing_turn _ c.loop-i.invariant c.loop-i-test.true c.pin_row.ensures (search rules))  -- loop-again
     (λ c. search rules)  -- same-length
-    (λ c. backing_end c.before.loop.invariant c.loop-test.false))
+    (λ c. backing_end c.loop-i.invariant c.loop-i-test.false))

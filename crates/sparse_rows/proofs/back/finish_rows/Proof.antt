@@ -11,8 +11,8 @@ finish_rows_spec =
     tie.close
     (tie.spec
     (λ c κs. search rules)  -- any-unsolvable-requires
-    (λ c. finish_stop _ _ _ c.before.any-unsolvable.ensures c.if1.true)  -- returns
+    (λ c. finish_stop _ _ _ c.any_unsolvable.ensures c.if-any_unsolvable.true)  -- returns
     (λ c κs. search rules)  -- zero-words-requires
-    (λ c κs. let s = c.before.before.before.before.before.before.before.before.before.before in (s.requires.0, search rules, search rules))  -- back-substitution-requires
+    (λ c κs. let s = c in (s.requires.0, search rules, search rules))  -- back-substitution-requires
     (λ c. search rules)  -- same-length
-    (λ c. let s = c.before.before.before.before.before.before.before.before.before.before.before.before.before in finish_done _ _ _ _ _ c.before.before.before.before.before.before.before.before.before.any-unsolvable.ensures c.before.before.before.before.before.before.before.before.if1.false (zeros_all _ _ _ s.requires.2 c.before.before.before.before.before.before.zero-words.ensures) c.before.before.back-substitution.ensures))
+    (λ c. let s = c in finish_done _ _ _ _ _ c.any_unsolvable.ensures c.if-any_unsolvable.false (zeros_all _ _ _ s.requires.2 c.zero_words.ensures) c.back_substitution.ensures))

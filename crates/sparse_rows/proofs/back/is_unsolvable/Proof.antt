@@ -13,7 +13,7 @@ is_unsolvable_spec =
     (λ c. search rules)  -- add-if1-2
     (λ c. search rules)  -- mul-if1-2
     (λ c. search rules)  -- shared-slice-read-if1
-    (λ c. let s = c.before.before in solvable_full s.requires.0 _ s.requires.1 c.if1.true)  -- returns
+    (λ c. let s = c in solvable_full s.requires.0 _ s.requires.1 c.if-numbers-m-ne0.true)  -- returns
     (λ c. search rules)  -- mul-result
     (λ c. search rules)  -- shared-slice-read-result
-    (λ c. let s = c.before.before.before in unsolvable_empty s.requires.0 _ s.requires.1 c.before.if1.false))
+    (λ c. let s = c in unsolvable_empty s.requires.0 _ s.requires.1 c.if-numbers-m-ne0.false))

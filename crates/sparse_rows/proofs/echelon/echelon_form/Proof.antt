@@ -13,12 +13,12 @@ use native.Mathlib.Omega.{arith}
 use Rattle.sparse_rows.proofs.echelon.echelon_form.Statement.{statement}
 use Rattle.sparse_rows.proofs.echelon.echelon_form.Tie as tie
 
-abbrev invariant_loop : tie.invariant-loop
+abbrev invariant_loop : tie.invariant-loop-i
 invariant_loop numbers₀ words₀ n m d cancelled₀ i₀ numbers words cancelled i =
     Reducing n m d (rows_of n m numbers₀ words₀) (drop (row_numbers n m) numbers₀) (drop (row_words m) words₀) numbers words i × (length numbers ≡ length numbers₀) × (length words ≡ length words₀) × (i ≤ d)
     × Tally cancelled (ahead_rows n m d numbers words i) (sparse_cancels (take d (rows_of n m numbers₀ words₀)))
 
-abbrev decreases_loop : tie.decreases-loop
+abbrev decreases_loop : tie.decreases-loop-i
 decreases_loop numbers₀ words₀ n m d cancelled₀ i₀ numbers words cancelled i = d - i
 
 pub echelon_form_spec : {M : Type 1} → statement M
@@ -27,18 +27,18 @@ echelon_form_spec =
     (tie.spec
     invariant_loop
     decreases_loop
-    (λ c. let s = c.before.before in (reducing_begin s.requires.0 s.requires.1, refl, refl, search rules, tally_same tally_begin (form_whole s.requires.0 s.requires.1)))  -- loop-holds
+    (λ c. let s = c in (reducing_begin s.requires.0 s.requires.1, refl, refl, search rules, tally_same tally_begin (form_whole s.requires.0 s.requires.1)))  -- loop-holds
     (λ c. search rules)  -- add-loop
-    (λ c κs. let s = c.before.before.before.before.before.before in (reducing_held c.before.before.before.loop.invariant.0, omega (arith, c.before.before.loop-test.true), s.requires.1, s.requires.2))  -- outer-row-requires
-    (λ c. let s = c.before.before.before.before.before.before.before.before.before.before.before.before in let v = c.before.before.before.before.before.before.before.before.before.loop.invariant in let o = c.before.before.before.before.before.outer-row.ensures in let f = tally_fits v.4 o.1 (form_least (reducing_held v.0) s.requires.1 _ c.before.before.before.before.before.before.before.before.loop-test.true) refl (form_room s.requires.0 s.requires.1 s.requires.2 s.requires.3) in record { fits = omega arith })  -- add-cancelled
+    (λ c κs. let s = c in (reducing_held c.loop-i.invariant.0, omega (arith, c.loop-i-test.true), s.requires.1, s.requires.2))  -- outer-row-requires
+    (λ c. let s = c in let v = c.loop-i.invariant in let o = c.outer_row-row.ensures in let f = tally_fits v.4 o.1 (form_least (reducing_held v.0) s.requires.1 _ c.loop-i-test.true) refl (form_room s.requires.0 s.requires.1 s.requires.2 s.requires.3) in record { fits = omega arith })  -- add-cancelled
     (λ c. search rules)  -- enum_told
     (λ c. search rules)  -- same-length
     (λ c. search rules)  -- same-length-2
-    (λ c. let v = c.before.before.before.before.before.before.before.before.before.before.before.loop.invariant in let t = c.before.before.before.before.before.before.before.before.before.before.loop-test.true in let o = c.before.before.before.before.before.before.before.outer-row.ensures in let e = c.enum_told.given.1 in (reducing_stop v.0 t o.0 e, tally_last v.4 o.1 (form_stop (reducing_held v.0) v.0.d_in _ t o.0 e) refl))  -- returns
+    (λ c. let v = c.loop-i.invariant in let t = c.loop-i-test.true in let o = c.outer_row-row.ensures in let e = c.in-Unsolvable.is in (reducing_stop v.0 t o.0 e, tally_last v.4 o.1 (form_stop (reducing_held v.0) v.0.d_in _ t o.0 e) refl))  -- returns
     (λ c. search rules)  -- enum-told-2
     (λ c. search rules)  -- add-i
     (λ c. search rules)  -- loop-less
-    (λ c. let v = c.before.before.before.before.before.before.before.before.before.before.before.loop.invariant in let t = c.before.before.before.before.before.before.before.before.before.before.loop-test.true in let o = c.before.before.before.before.before.before.before.outer-row.ensures in let e = c.enum-told2.given.1 in (reducing_turn v.0 t o.0 e, search rules, search rules, search rules, tally_turn v.4 o.1 (form_turn (reducing_held v.0) v.0.d_in _ t o.0 e)))  -- loop-again
+    (λ c. let v = c.loop-i.invariant in let t = c.loop-i-test.true in let o = c.outer_row-row.ensures in let e = c.in-Reduced.is in (reducing_turn v.0 t o.0 e, search rules, search rules, search rules, tally_turn v.4 o.1 (form_turn (reducing_held v.0) v.0.d_in _ t o.0 e)))  -- loop-again
     (λ c. search rules)  -- same-length-3
     (λ c. search rules)  -- same-length-4
-    (λ c. let v = c.before.loop.invariant in (reducing_end v.0 c.loop-test.false, tally_over v.4 (form_over _ _ _ _ _ _ c.loop-test.false) refl)))
+    (λ c. let v = c.loop-i.invariant in (reducing_end v.0 c.loop-i-test.false, tally_over v.4 (form_over _ _ _ _ _ _ c.loop-i-test.false) refl)))

@@ -16,8 +16,8 @@ meet_rows_spec =
     (λ c. search rules)  -- slice-read-if1
     (λ c. search rules)  -- mul-if2
     (λ c. search rules)  -- slice-read-if2
-    (λ c. let s = c.before.before.before.before.before.before in (meet_clash s.requires.0 _ _ s.requires.1 s.requires.2 c.before.before.if1.true c.if2.true, blank_cost s.requires.0 _ _ s.requires.1 s.requires.2 _ c.before.before.if1.true))  -- returns
-    (λ c. let s = c.before.before.before.before.before.before in (meet_skip s.requires.0 _ _ s.requires.1 s.requires.2 s.requires.4.filled c.before.before.if1.true c.if2.false, blank_cost s.requires.0 _ _ s.requires.1 s.requires.2 _ c.before.before.if1.true))  -- returns-2
+    (λ c. let s = c in (meet_clash s.requires.0 _ _ s.requires.1 s.requires.2 c.if-numbers-m-eq0.true c.if-words-j-ne0.true, blank_cost s.requires.0 _ _ s.requires.1 s.requires.2 _ c.if-numbers-m-eq0.true))  -- returns
+    (λ c. let s = c in (meet_skip s.requires.0 _ _ s.requires.1 s.requires.2 s.requires.4.filled c.if-numbers-m-eq0.true c.if-words-j-ne0.false, blank_cost s.requires.0 _ _ s.requires.1 s.requires.2 _ c.if-numbers-m-eq0.true))  -- returns-2
     (λ c κs. search rules)  -- add-rows-requires
     (λ c. search rules)  -- mul-if3
     (λ c. search rules)  -- add-if3
@@ -28,10 +28,10 @@ meet_rows_spec =
     (λ c. search rules)  -- slice-read-if4
     (λ c. search rules)  -- same-length
     (λ c. search rules)  -- same-length-2
-    (λ c. let s = c.before.before.before.before.before.before.before.before.before.before.before.before.before.before.before in let f = c.before.before.before.before.before.before.before.before.before.before.before.if1.false in let b = c.before.before.before.before.before.before.before.before.add-rows.ensures in (sum_clash s.requires.0 _ _ s.requires.1 s.requires.2 f s.requires.4.filled (s.requires.4.same f) b.0 c.before.before.if3.true c.if4.true, sum_cost s.requires.0 _ _ s.requires.1 s.requires.2 s.requires.4.filled _ f (s.requires.4.same f) b.1))  -- returns-3
+    (λ c. let s = c in let f = c.if-numbers-m-eq0.false in let b = c.add_rows-with_sum.ensures in (sum_clash s.requires.0 _ _ s.requires.1 s.requires.2 f s.requires.4.filled (s.requires.4.same f) b.0 c.if-numbers-m-eq0-2.true c.if-words-i-ne0.true, sum_cost s.requires.0 _ _ s.requires.1 s.requires.2 s.requires.4.filled _ f (s.requires.4.same f) b.1))  -- returns-3
     (λ c. search rules)  -- same-length-3
     (λ c. search rules)  -- same-length-4
-    (λ c. let s = c.before.before.before.before.before.before.before.before.before.before.before.before.before.before.before in let f = c.before.before.before.before.before.before.before.before.before.before.before.if1.false in let b = c.before.before.before.before.before.before.before.before.add-rows.ensures in (sum_identity s.requires.0 _ _ s.requires.1 s.requires.2 f s.requires.4.filled (s.requires.4.same f) b.0 c.before.before.if3.true c.if4.false, sum_cost s.requires.0 _ _ s.requires.1 s.requires.2 s.requires.4.filled _ f (s.requires.4.same f) b.1))  -- returns-4
+    (λ c. let s = c in let f = c.if-numbers-m-eq0.false in let b = c.add_rows-with_sum.ensures in (sum_identity s.requires.0 _ _ s.requires.1 s.requires.2 f s.requires.4.filled (s.requires.4.same f) b.0 c.if-numbers-m-eq0-2.true c.if-words-i-ne0.false, sum_cost s.requires.0 _ _ s.requires.1 s.requires.2 s.requires.4.filled _ f (s.requires.4.same f) b.1))  -- returns-4
     (λ c. search rules)  -- same-length-5
     (λ c. search rules)  -- same-length-6
-    (λ c. let s = c.before.before.before.before.before.before.before.before.before.before.before.before.before in let f = c.before.before.before.before.before.before.before.before.before.if1.false in let b = c.before.before.before.before.before.before.add-rows.ensures in (sum_again s.requires.0 _ _ s.requires.1 s.requires.2 f s.requires.4.filled (s.requires.4.same f) b.0 c.if3.false, sum_cost s.requires.0 _ _ s.requires.1 s.requires.2 s.requires.4.filled _ f (s.requires.4.same f) b.1)))
+    (λ c. let s = c in let f = c.if-numbers-m-eq0.false in let b = c.add_rows-with_sum.ensures in (sum_again s.requires.0 _ _ s.requires.1 s.requires.2 f s.requires.4.filled (s.requires.4.same f) b.0 c.if-numbers-m-eq0-2.false, sum_cost s.requires.0 _ _ s.requires.1 s.requires.2 s.requires.4.filled _ f (s.requires.4.same f) b.1)))

@@ -13,11 +13,11 @@ use native.Mathlib.Omega.{arith}
 use Rattle.sparse_rows.proofs.echelon.outer_row.Statement.{statement}
 use Rattle.sparse_rows.proofs.echelon.outer_row.Tie as tie
 
-abbrev invariant_loop : tie.invariant-loop
+abbrev invariant_loop : tie.invariant-loop-j
 invariant_loop numbers₀ words₀ n m d i j₀ fallen₀ numbers words j fallen =
     Passes n m d i j₀ numbers₀ words₀ numbers words j × (length numbers ≡ length numbers₀) × (length words ≡ length words₀) × Fallen fallen (ahead n m d i numbers words j) (ahead n m d i numbers₀ words₀ j₀)
 
-abbrev decreases_loop : tie.decreases-loop
+abbrev decreases_loop : tie.decreases-loop-j
 decreases_loop numbers₀ words₀ n m d i j₀ fallen₀ numbers words j fallen = d - j
 
 pub outer_row_spec : {M : Type 1} → statement M
@@ -33,29 +33,29 @@ outer_row_spec =
     (λ c. search rules)  -- slice-read-if1
     (λ c. search rules)  -- mul-if2
     (λ c. search rules)  -- slice-read-if2
-    (λ c. let s = c.before.before.before.before.before.before in (round_wrong s.requires.0 s.requires.1 s.requires.2 c.before.before.if1.true c.if2.true, round_none s.requires.0 s.requires.1 s.requires.2 c.before.before.if1.true))  -- returns
-    (λ c. let s = c.before.before.before.before.before.before in (round_blank s.requires.0 s.requires.1 s.requires.2 c.before.before.if1.true c.if2.false, round_none s.requires.0 s.requires.1 s.requires.2 c.before.before.if1.true))  -- returns-2
+    (λ c. let s = c in (round_wrong s.requires.0 s.requires.1 s.requires.2 c.if-numbers-m-eq0.true c.if-words-i-ne0.true, round_none s.requires.0 s.requires.1 s.requires.2 c.if-numbers-m-eq0.true))  -- returns
+    (λ c. let s = c in (round_blank s.requires.0 s.requires.1 s.requires.2 c.if-numbers-m-eq0.true c.if-words-i-ne0.false, round_none s.requires.0 s.requires.1 s.requires.2 c.if-numbers-m-eq0.true))  -- returns-2
     (λ c. search rules)  -- add-pass-rows
-    (λ c κs. let s = c.before.before.before.before.before.before in (s.requires.0, omega arith, omega (arith, s.requires.1), s.requires.2, c.before.before.if1.false))  -- pass-rows-requires
-    (λ c. let p = c.before.before.before.before.pass-rows.ensures.0 in (passes_none p.stands p.alike, refl, refl, fallen_begin))  -- loop-holds
-    (λ c κs. let s = c.before.before.before.before.before.before.before.before.before.before.before.before.before.before.before in let p = c.before.before.before.loop.invariant.0 in (held p.stands.drawn, p.stands.i_below, omega (arith, c.before.before.loop-test.true, s.requires.2), s.requires.3, p.alike c.before.before.loop-test.true, (let k = round_room s.requires.0 s.requires.1 s.requires.2 c.before.before.before.before.before.before.before.before.before.before.before.if1.false in let f = fallen_most c.before.before.before.loop.invariant.3 c.before.before.before.before.before.before.before.before.pass-rows.ensures.1 k in omega (arith, s.requires.0.numbers_room_lem))))  -- meet-rows-requires
+    (λ c κs. let s = c in (s.requires.0, omega arith, omega (arith, s.requires.1), s.requires.2, c.if-numbers-m-eq0.false))  -- pass-rows-requires
+    (λ c. let p = c.pass_rows-j.ensures.0 in (passes_none p.stands p.alike, refl, refl, fallen_begin))  -- loop-holds
+    (λ c κs. let s = c in let p = c.loop-j.invariant.0 in (held p.stands.drawn, p.stands.i_below, omega (arith, c.loop-j-test.true, s.requires.2), s.requires.3, p.alike c.loop-j-test.true, (let k = round_room s.requires.0 s.requires.1 s.requires.2 c.if-numbers-m-eq0.false in let f = fallen_most c.loop-j.invariant.3 c.pass_rows-j.ensures.1 k in omega (arith, s.requires.0.numbers_room_lem))))  -- meet-rows-requires
     (λ c. search rules)  -- enum_told
     (λ c. search rules)  -- same-length
     (λ c. search rules)  -- same-length-2
-    (λ c. let s = c.before.before.before.before.before.before.before.before.before.before.before.before.before.before.before.before.before.before.before.before.before.before in let r = round_passed (round_passed (round_begin s.requires.0 s.requires.1 s.requires.2 c.before.before.before.before.before.before.before.before.before.before.before.before.before.before.before.before.before.before.if1.false) c.before.before.before.before.before.before.before.before.before.before.before.before.before.before.before.pass-rows.ensures.0) c.before.before.before.before.before.before.before.before.before.before.loop.invariant.0 in (round_clash r c.before.before.before.before.before.before.before.before.before.loop-test.true c.before.before.before.before.before.before.meet-rows.ensures.0 c.enum_told.given.1, fallen_last c.before.before.before.before.before.before.before.before.before.before.loop.invariant.3 _ c.before.before.before.before.before.before.meet-rows.ensures.1 (ahead_clash (held c.before.before.before.before.before.before.before.before.before.before.loop.invariant.0.stands.drawn) c.before.before.before.before.before.before.before.before.before.before.loop.invariant.0.stands.i_below c.before.before.before.before.before.before.before.before.before.loop-test.true s.requires.2 c.before.before.before.before.before.before.meet-rows.ensures.0 c.enum_told.given.1) (c.before.before.before.before.before.before.before.before.before.before.before.before.before.before.before.pass-rows.ensures.1 ∙ round_whole s.requires.0 s.requires.1 s.requires.2 c.before.before.before.before.before.before.before.before.before.before.before.before.before.before.before.before.before.before.if1.false)))  -- returns-3
+    (λ c. let s = c in let r = round_passed (round_passed (round_begin s.requires.0 s.requires.1 s.requires.2 c.if-numbers-m-eq0.false) c.pass_rows-j.ensures.0) c.loop-j.invariant.0 in (round_clash r c.loop-j-test.true c.meet_rows-e.ensures.0 c.in-Clash.is, fallen_last c.loop-j.invariant.3 _ c.meet_rows-e.ensures.1 (ahead_clash (held c.loop-j.invariant.0.stands.drawn) c.loop-j.invariant.0.stands.i_below c.loop-j-test.true s.requires.2 c.meet_rows-e.ensures.0 c.in-Clash.is) (c.pass_rows-j.ensures.1 ∙ round_whole s.requires.0 s.requires.1 s.requires.2 c.if-numbers-m-eq0.false)))  -- returns-3
     (λ c. search rules)  -- enum-told-2
     (λ c. search rules)  -- same-length-3
     (λ c. search rules)  -- same-length-4
-    (λ c. let s = c.before.before.before.before.before.before.before.before.before.before.before.before.before.before.before.before.before.before.before.before.before.before in let r = round_passed (round_passed (round_begin s.requires.0 s.requires.1 s.requires.2 c.before.before.before.before.before.before.before.before.before.before.before.before.before.before.before.before.before.before.if1.false) c.before.before.before.before.before.before.before.before.before.before.before.before.before.before.before.pass-rows.ensures.0) c.before.before.before.before.before.before.before.before.before.before.loop.invariant.0 in (round_identity r c.before.before.before.before.before.before.before.before.before.loop-test.true c.before.before.before.before.before.before.meet-rows.ensures.0 c.enum-told2.given.1, fallen_last c.before.before.before.before.before.before.before.before.before.before.loop.invariant.3 _ c.before.before.before.before.before.before.meet-rows.ensures.1 (ahead_identity (held c.before.before.before.before.before.before.before.before.before.before.loop.invariant.0.stands.drawn) c.before.before.before.before.before.before.before.before.before.before.loop.invariant.0.stands.i_below c.before.before.before.before.before.before.before.before.before.loop-test.true s.requires.2 c.before.before.before.before.before.before.meet-rows.ensures.0 c.enum-told2.given.1) (c.before.before.before.before.before.before.before.before.before.before.before.before.before.before.before.pass-rows.ensures.1 ∙ round_whole s.requires.0 s.requires.1 s.requires.2 c.before.before.before.before.before.before.before.before.before.before.before.before.before.before.before.before.before.before.if1.false)))  -- returns-4
+    (λ c. let s = c in let r = round_passed (round_passed (round_begin s.requires.0 s.requires.1 s.requires.2 c.if-numbers-m-eq0.false) c.pass_rows-j.ensures.0) c.loop-j.invariant.0 in (round_identity r c.loop-j-test.true c.meet_rows-e.ensures.0 c.in-Identity.is, fallen_last c.loop-j.invariant.3 _ c.meet_rows-e.ensures.1 (ahead_identity (held c.loop-j.invariant.0.stands.drawn) c.loop-j.invariant.0.stands.i_below c.loop-j-test.true s.requires.2 c.meet_rows-e.ensures.0 c.in-Identity.is) (c.pass_rows-j.ensures.1 ∙ round_whole s.requires.0 s.requires.1 s.requires.2 c.if-numbers-m-eq0.false)))  -- returns-4
     (λ c. search rules)  -- enum-told-3
     (λ c. search rules)  -- add-pass-rows-2
-    (λ c κs. let t = stands_turn c.before.before.before.before.before.before.before.before.before.before.before.before.loop.invariant.0.stands c.before.before.before.before.before.before.before.before.before.before.before.loop-test.true c.before.before.before.before.before.before.before.before.meet-rows.ensures.0 c.before.before.enum-told3.given.1 in (held t.drawn, t.i_below, t.j_in, t.d_in, stands_filled t))  -- pass-rows-requires-2
-    (λ c. let f = c.before.before.before.before.pass-rows2.ensures.0.from in search rules)  -- loop-less
-    (λ c. (passes_turn c.before.before.before.before.before.before.before.before.before.before.before.before.before.before.before.before.before.loop.invariant.0 c.before.before.before.before.before.before.before.before.before.before.before.before.before.before.before.before.loop-test.true c.before.before.before.before.before.before.before.before.before.before.before.before.before.meet-rows.ensures.0 c.before.before.before.before.before.before.before.enum-told3.given.1 c.before.before.before.before.pass-rows2.ensures.0, search rules, search rules, fallen_same (fallen_turn c.before.before.before.before.before.before.before.before.before.before.before.before.before.before.before.before.before.loop.invariant.3 _ c.before.before.before.before.before.before.before.before.before.before.before.before.before.meet-rows.ensures.1 (ahead_turn (held c.before.before.before.before.before.before.before.before.before.before.before.before.before.before.before.before.before.loop.invariant.0.stands.drawn) c.before.before.before.before.before.before.before.before.before.before.before.before.before.before.before.before.before.loop.invariant.0.stands.i_below c.before.before.before.before.before.before.before.before.before.before.before.before.before.before.before.before.loop-test.true c.before.before.before.before.before.before.before.before.before.before.before.before.before.before.before.before.before.loop.invariant.0.stands.d_in c.before.before.before.before.before.before.before.before.before.before.before.before.before.meet-rows.ensures.0 c.before.before.before.before.before.before.before.enum-told3.given.1)) c.before.before.before.before.pass-rows2.ensures.1))  -- loop-again
+    (λ c κs. let t = stands_turn c.loop-j.invariant.0.stands c.loop-j-test.true c.meet_rows-e.ensures.0 c.in-Both.is in (held t.drawn, t.i_below, t.j_in, t.d_in, stands_filled t))  -- pass-rows-requires-2
+    (λ c. let f = c.pass_rows-j-in-Both.ensures.0.from in search rules)  -- loop-less
+    (λ c. (passes_turn c.loop-j.invariant.0 c.loop-j-test.true c.meet_rows-e.ensures.0 c.in-Both.is c.pass_rows-j-in-Both.ensures.0, search rules, search rules, fallen_same (fallen_turn c.loop-j.invariant.3 _ c.meet_rows-e.ensures.1 (ahead_turn (held c.loop-j.invariant.0.stands.drawn) c.loop-j.invariant.0.stands.i_below c.loop-j-test.true c.loop-j.invariant.0.stands.d_in c.meet_rows-e.ensures.0 c.in-Both.is)) c.pass_rows-j-in-Both.ensures.1))  -- loop-again
     (λ c. search rules)  -- enum-told-4
-    (λ c κs. let t = stands_again c.before.before.before.before.before.before.before.before.before.before.before.before.loop.invariant.0.stands c.before.before.before.before.before.before.before.before.before.before.before.loop-test.true c.before.before.before.before.before.before.before.before.meet-rows.ensures.0 c.before.before.enum-told4.given.1 in (held t.drawn, t.i_below, t.j_in, t.d_in, stands_filled t))  -- pass-rows-requires-3
-    (λ c. let f = again_onward c.before.before.before.before.before.before.before.before.before.before.before.before.before.before.before.before.before.loop.invariant.0 c.before.before.before.before.before.before.before.before.before.before.before.before.before.before.before.before.loop-test.true c.before.before.before.before.before.before.before.before.before.before.before.before.before.meet-rows.ensures.0 c.before.before.before.before.before.before.before.enum-told4.given.1 c.before.before.before.before.pass-rows3.ensures.0 in search rules)  -- loop-less-2
-    (λ c. (passes_again c.before.before.before.before.before.before.before.before.before.before.before.before.before.before.before.before.before.loop.invariant.0 c.before.before.before.before.before.before.before.before.before.before.before.before.before.before.before.before.loop-test.true c.before.before.before.before.before.before.before.before.before.before.before.before.before.meet-rows.ensures.0 c.before.before.before.before.before.before.before.enum-told4.given.1 c.before.before.before.before.pass-rows3.ensures.0, search rules, search rules, fallen_same (fallen_turn c.before.before.before.before.before.before.before.before.before.before.before.before.before.before.before.before.before.loop.invariant.3 _ c.before.before.before.before.before.before.before.before.before.before.before.before.before.meet-rows.ensures.1 (ahead_again (held c.before.before.before.before.before.before.before.before.before.before.before.before.before.before.before.before.before.loop.invariant.0.stands.drawn) c.before.before.before.before.before.before.before.before.before.before.before.before.before.before.before.before.before.loop.invariant.0.stands.i_below c.before.before.before.before.before.before.before.before.before.before.before.before.before.before.before.before.loop-test.true c.before.before.before.before.before.before.before.before.before.before.before.before.before.before.before.before.before.loop.invariant.0.stands.d_in c.before.before.before.before.before.before.before.before.before.before.before.before.before.meet-rows.ensures.0 c.before.before.before.before.before.before.before.enum-told4.given.1)) c.before.before.before.before.pass-rows3.ensures.1))  -- loop-again-2
+    (λ c κs. let t = stands_again c.loop-j.invariant.0.stands c.loop-j-test.true c.meet_rows-e.ensures.0 c.in-Summed.is in (held t.drawn, t.i_below, t.j_in, t.d_in, stands_filled t))  -- pass-rows-requires-3
+    (λ c. let f = again_onward c.loop-j.invariant.0 c.loop-j-test.true c.meet_rows-e.ensures.0 c.in-Summed.is c.pass_rows-j-in-Summed.ensures.0 in search rules)  -- loop-less-2
+    (λ c. (passes_again c.loop-j.invariant.0 c.loop-j-test.true c.meet_rows-e.ensures.0 c.in-Summed.is c.pass_rows-j-in-Summed.ensures.0, search rules, search rules, fallen_same (fallen_turn c.loop-j.invariant.3 _ c.meet_rows-e.ensures.1 (ahead_again (held c.loop-j.invariant.0.stands.drawn) c.loop-j.invariant.0.stands.i_below c.loop-j-test.true c.loop-j.invariant.0.stands.d_in c.meet_rows-e.ensures.0 c.in-Summed.is)) c.pass_rows-j-in-Summed.ensures.1))  -- loop-again-2
     (λ c. search rules)  -- same-length-5
     (λ c. search rules)  -- same-length-6
-    (λ c. let s = c.before.before.before.before.before.before.before.before.before.before.before.before.before in let r = round_passed (round_passed (round_begin s.requires.0 s.requires.1 s.requires.2 c.before.before.before.before.before.before.before.before.before.if1.false) c.before.before.before.before.before.before.pass-rows.ensures.0) c.before.loop.invariant.0 in (round_end r c.loop-test.false, fallen_over c.before.loop.invariant.3 (ahead_over _ _ _ _ _ _ _ c.loop-test.false) (c.before.before.before.before.before.before.pass-rows.ensures.1 ∙ round_whole s.requires.0 s.requires.1 s.requires.2 c.before.before.before.before.before.before.before.before.before.if1.false))))
+    (λ c. let s = c in let r = round_passed (round_passed (round_begin s.requires.0 s.requires.1 s.requires.2 c.if-numbers-m-eq0.false) c.pass_rows-j.ensures.0) c.loop-j.invariant.0 in (round_end r c.loop-j-test.false, fallen_over c.loop-j.invariant.3 (ahead_over _ _ _ _ _ _ _ c.loop-j-test.false) (c.pass_rows-j.ensures.1 ∙ round_whole s.requires.0 s.requires.1 s.requires.2 c.if-numbers-m-eq0.false))))
