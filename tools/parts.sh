@@ -2,30 +2,26 @@
 #   src   the folder `src` of the Rust text, with utils/mod2_sys.rs, func/peeling.rs and func/vbuilder.rs
 #   out   where all is built
 #   tree  the repository
-kit=$(dirname "$(dirname "$(rt doc)")")
+. "$tree/tools/kit.sh"
 machine=$(uname -m)
-tools=$kit/on/$machine/toolchain
 
-link_all() { # FROM TO EXCEPT
-    for f in "$1"/*; do [ "${f##*/}" = "$3" ] || ln -sfn "$f" "$2/${f##*/}"; done
-}
-
-# A stand-in for the kit whose clang keeps the module that it is given last in OUT/modules.
-stand_in() {
-    rm -rf "$out/kit" "$out/tools" "$out/modules"
-    mkdir -p "$out/kit/on/$machine" "$out/tools/bin" "$out/modules"
-    link_all "$kit" "$out/kit" on
-    link_all "$kit/on/$machine" "$out/kit/on/$machine" toolchain
-    link_all "$tools" "$out/tools" bin
-    link_all "$tools/bin" "$out/tools/bin" clang
-    ln -sfn "$out/tools" "$out/kit/on/$machine/toolchain"
-    cat >"$out/tools/bin/clang" <<W
+# The module that rattle hands to the compiler for the static library CRATE, in FILE: it is kept by a stand-in for the kit's compiler.
+# The libraries below are those of the last `rt lib`.
+module() ( # CRATE FILE
+    rm -rf "$out/stand-in"
+    mkdir -p "$out/stand-in/bin"
+    for f in "$tools"/* "$tools"/bin/*; do
+        name=${f#"$tools"/}
+        case $name in bin | bin/clang) ;; *) ln -sfn "$f" "$out/stand-in/$name" ;; esac
+    done
+    cat >"$out/stand-in/bin/clang" <<W
 #!/bin/sh
-for a in "\$@"; do case \$a in *.bc) cp "\$a" "$out/modules/module.bc" ;; esac; done
+for a in "\$@"; do case \$a in *.bc) cp "\$a" "$2" ;; esac; done
 exec "$tools/bin/clang" "\$@"
 W
-    chmod +x "$out/tools/bin/clang"
-}
+    chmod +x "$out/stand-in/bin/clang"
+    static_library "$1" "$out/stand-in" "$out/stand-in/made.a" >"$out/rt.log" 2>&1 || { cat "$out/rt.log" >&2; exit 1; }
+)
 
 # The module, without what it says of its x86-64 target, compiled for another: TARGET by the compiler's name, and the compiler's words for it.
 compile_module() { # MODULE OBJECT TARGET WORDS..
@@ -34,19 +30,19 @@ compile_module() { # MODULE OBJECT TARGET WORDS..
     "$tools/bin/clang" --target=x86_64-unknown-linux-gnu -x ir "$module" -S -emit-llvm -O0 -Xclang -disable-llvm-passes -o "$out/module.ll"
     {
         echo 'int x;' | "$tools/bin/clang" --target="$target" "$@" -x c - -S -emit-llvm -o - | sed -n '/^target/p'
-        sed -e '/^target datalayout/d; /^target triple/d' -e 's/"target-cpu"="x86-64"//g; s/"target-features"="[^"]*"//g' "$out/module.ll"
+        sed -e '/^target datalayout/d; /^target triple/d' -e 's/"target-cpu"="[^"]*"//g; s/"target-features"="[^"]*"//g' "$out/module.ll"
     } >"$out/native.ll"
     "$tools/bin/clang" --target="$target" "$@" -c -x ir "$out/native.ll" -o "$object"
 }
 
 # The proved calls of both crates: OUT/NAME.a for x86-64, as rt writes it, and OUT/NAME.o for another machine.
 proved_calls() {
-    [ "$machine" = x86_64 ] || stand_in
-    for name in exports peel_exports; do
-        if [ "$machine" = x86_64 ]; then home=$kit; else home=$out/kit; fi
-        (cd "$tree" && RATTLE_HOME=$home rt staticlib $name) >"$out/rt.log" 2>&1 || { cat "$out/rt.log" >&2; exit 1; }
-        cp "$tree/target/staticlib/lib$name.a" "$out/$name.a"
-        [ "$machine" = x86_64 ] || compile_module "$out/modules/module.bc" "$out/$name.o" "$machine-unknown-linux-gnu" -O3 -fPIC
+    for name in exports_c peel_exports_c; do
+        proved_library $name "$out/$name.a" "$out/rt.log" || exit 1
+        [ "$machine" = x86_64 ] || {
+            module $name "$out/$name.bc"
+            compile_module "$out/$name.bc" "$out/$name.o" "$machine-unknown-linux-gnu" -O3 -fPIC
+        }
     done
 }
 
@@ -76,5 +72,5 @@ driver() { # NAME RUSTC KIND FLAGS..
     shift 3
     original "$to" "$rustc" "$@"
     "$rustc" --edition 2024 "$@" -g -L "$to" --extern original="$to/liboriginal.rlib" "$tree/tools/differential/driver.rs" \
-        -C link-arg="$out/exports.$kind" -C link-arg="$out/peel_exports.$kind" -o "$to/driver"
+        -C link-arg="$out/exports_c.$kind" -C link-arg="$out/peel_exports_c.$kind" -o "$to/driver"
 }

@@ -1,4 +1,4 @@
-//! The proved calls of the crates `exports` and `peel_exports`, lent memory with marks on both sides.
+//! The proved calls of the crates `exports_c` and `peel_exports_c`, lent memory with marks on both sides.
 
 unsafe extern "C" {
     fn orohkaril_sum(left: *const u32, left_len: usize, right: *const u32, right_len: usize, left_c: u64, right_c: u64, out: *mut u32, out_len: usize, len: *mut usize, constant: *mut u64, cancelled: *mut usize, place: *mut usize) -> u32;

@@ -5,19 +5,19 @@ use Rattle.bench_checks.proofs.systems.lazy_on.Reads as reads
 use Rattle.bench_checks.proofs.systems.lazy_on.Lts as lts
 use Rattle.bench_checks.proofs.systems.by_lazy.Reads as by-lazy-reads
 
-array_borrow_prefix_x : tie.Need-array-borrow-prefix-x
+array_borrow_prefix_x : tie.Need-slice_bounds-x-end
 array_borrow_prefix_x c = search rules
 
-slice_aggregate_by_lazy : tie.Need-slice-aggregate-by-lazy
+slice_aggregate_by_lazy : tie.Need-slice_bounds-by_lazy-end
 slice_aggregate_by_lazy c = sym (length-take-le _ _ (omega arith))
 
-slice_aggregate_by_lazy_2 : tie.Need-slice-aggregate-by-lazy-2
+slice_aggregate_by_lazy_2 : tie.Need-slice_bounds-by_lazy-end-2
 slice_aggregate_by_lazy_2 c = search rules
 
-slice_aggregate_by_lazy_3 : tie.Need-slice-aggregate-by-lazy-3
+slice_aggregate_by_lazy_3 : tie.Need-slice_bounds-by_lazy-end-3
 slice_aggregate_by_lazy_3 c = search rules
 
-by_lazy_requires : tie.Need-by-lazy-requires
+by_lazy_requires : tie.Need-by_lazy-answer-requires
 by_lazy_requires c κs = search rules
 
 returns : tie.Need-returns

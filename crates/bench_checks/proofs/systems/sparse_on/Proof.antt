@@ -5,19 +5,19 @@ use Rattle.bench_checks.proofs.systems.sparse_on.Reads as reads
 use Rattle.bench_checks.proofs.systems.sparse_on.Lts as lts
 use Rattle.bench_checks.proofs.systems.by_sparse.Reads as by-sparse-reads
 
-array_borrow_prefix_x : tie.Need-array-borrow-prefix-x
+array_borrow_prefix_x : tie.Need-slice_bounds-x-end
 array_borrow_prefix_x c = search rules
 
-slice_aggregate_by_sparse : tie.Need-slice-aggregate-by-sparse
+slice_aggregate_by_sparse : tie.Need-slice_bounds-by_sparse-end
 slice_aggregate_by_sparse c = sym (length-take-le _ _ (omega arith))
 
-slice_aggregate_by_sparse_2 : tie.Need-slice-aggregate-by-sparse-2
+slice_aggregate_by_sparse_2 : tie.Need-slice_bounds-by_sparse-end-2
 slice_aggregate_by_sparse_2 c = search rules
 
-slice_aggregate_by_sparse_3 : tie.Need-slice-aggregate-by-sparse-3
+slice_aggregate_by_sparse_3 : tie.Need-slice_bounds-by_sparse-end-3
 slice_aggregate_by_sparse_3 c = search rules
 
-by_sparse_requires : tie.Need-by-sparse-requires
+by_sparse_requires : tie.Need-by_sparse-answer-requires
 by_sparse_requires c κs = search rules
 
 returns : tie.Need-returns

@@ -5,7 +5,7 @@ use Rattle.bench_checks.proofs.tally.add_one.Tie as tie
 
 returns : tie.Need-returns
 unfolding one_more
-returns c = let a = c.before.before.args in ap (λ (x : ℕ). set a.tally.now a.k x) c.wrapping-add-u64.ensures
+returns c = let a = c.args in ap (λ (x : ℕ). set a.tally.now a.k x) c.wrapping_add_u64.ensures
 
 pub add_one_spec : {M : Type 1} → statement M
 add_one_spec =
