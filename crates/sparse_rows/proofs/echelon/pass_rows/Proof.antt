@@ -1,6 +1,6 @@
 -- What is left of the loop over the later rows gives what the whole gives; u is the number that row i begins with.
 use mathlib.Core.Path.{◌≡◌, refl, ◌∙◌}
-use Prim.Native.Nat.{ℕ, ◌-◌}
+use Prim.Native.Nat.{◌-◌}
 use lib.ListN.{length}
 use Rattle.sparse_rows.proofs.Forward.{row_in}
 use Rattle.sparse_rows.proofs.Passing.{Passing, passing_begin, passing_held, k_in, passing_in, passing_above, passing_swap, passing_same, passing_empty, passing_end}
