@@ -1,6 +1,7 @@
 -- A `&mut [T]` that is lent as a `&[T]` for a lifetime of a call, and comes back as it was.
 --     LentShared       what the holder keeps meanwhile: the lender's part, and its own borrow, open, with both halves of its ghost variable
---     shares           [Mut y d; κ's token; …]  →  [ν's token; ShrOf y d; KeptShr; …]        given how a value of the elements' type is shared at ν, as `shares_Whole` and `denote.Copied` give for every l
+--     shares           [Mut y d; κ's token; …]  →  [ν's token; ShrOf y d; KeptShr; …]        given how a value of the elements' type is shared at ν, as `by_copied` gives it
+--     by_copied        a type that is `Copy` is shared so: a number by `uint_Copied`, a struct by `denote.Struct.Laws.copied`
 --     unshares         [ν's token; KeptShr; …]  →  [Mut y d; κ's token; …]
 -- Assumes `Logic`.
 use mathlib.Core.Path.{◌≡◌, refl, sym, subst}
@@ -15,15 +16,16 @@ use base.Logic.{ent, sep}
 use base.Fml.{Lft, GName, Share, Fml, Incl, Incl-refl, fsep, flft, fdead, fobs, fauth, flent, fobor}
 use ghost.Rules.{Toks, span}
 use types.Logic.{Logic, sem, lfts}
-use types.Kit.{Goal, Soaks, Seq, Step, step, Item, ‵, raw, ◌⊛◌, some, later, ◌$◌, ◌∵◌, !, qed, move, use1, use2, use3, drop, split, rewrite, fsplit, fjoin, feq_i, frame, await, updating, now as at_once, done}
+use types.Kit.{Goal, Soaks, Seq, Step, step, Item, ‵, raw, ◌⊛◌, later, ◌$◌, ◌∵◌, !, qed, move, use2, use3, drop, split, rewrite, fsplit, fjoin, feq_i, frame, await, updating, now as at_once, done}
 use types.Share.{arr_parts}
 use types.Tokens.{lft_new, lft_end, lent_back}
 use denote.RattleType.{RattleType}
 use denote.Shadow.{pure_l, pure_i}
-use denote.Memory.{mem, shared_of, shares as parts-of}
+use denote.Memory.{shared_of, shares as parts-of}
+use denote.Copied.{Copied}
 use denote.Shares.{SharesAsFrom}
 use denote.Ref.{as_bor, Bor, MutBor}
-use denote.Slice.{slice_val, MutSlice, ShrSlice, heres, Room, shr_slice_at, mut_slice_at, coded_holeys}
+use denote.Slice.{slice_val, MutSlice, ShrSlice, heres, Room, mut_slice_at, coded_holeys}
 use denote.Lend.{Held, lends_shr_slice}
 use denote.Index.{opens_slice, closes_slice}
 use Rattle.walk_rules.proofs.Lent.{val, at, Mut}
@@ -67,6 +69,9 @@ ShrOf R ν y d = (ShrSlice (named 0) (ν ∷ []) R).own_val (record { ref_ptr = 
 
 abbrev pub KeptShr : (R : RattleType) → Lft → Share → ℕ → MutBor (List R.Denot) → List R.Denot → Fml
 KeptShr R κ q ν y d = LentShared R κ (ν ∷ []) q y.ghost_name y.ref_ptr.0 y.ref_ptr.1 d
+
+abbrev pub by_copied : {M : Type 1} {𝓤 : Ura M} {𝓛 : Logic 𝓤} {R : RattleType} → Copied 𝓛 R → (ν : ℕ) → SharesAsFrom 𝓛 full_share R (shared_of R) (ν ∷ [])
+by_copied c ν = c.shares full_share (ν ∷ [])
 
 module _ {M : Type 1} {𝓤 : Ura M} {𝓛 : Logic 𝓤} {K : Type 0} {Γ : List (Item 𝓤)} {G : Goal 𝓤 𝓛.H} where
   pub shares : K → Soaks G → (R : RattleType) → ((ν : ℕ) → SharesAsFrom 𝓛 full_share R (shared_of R) (ν ∷ [])) → (κ : Lft) (q : Share) (y : MutBor (List R.Denot)) (d : List R.Denot) → length d ≡ length y.now

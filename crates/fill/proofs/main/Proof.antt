@@ -5,11 +5,11 @@ use borrow.Author.Rules.{rules}
 use Rattle.fill.proofs.main.Statement.{statement}
 use Rattle.fill.proofs.main.Tie as tie
 
-array_share_prefix_text : tie.Need-array-share-prefix-text
-array_share_prefix_text c = let e = c.before.link-file.ensures in written_within _ _ e.0 e.1
+array_share_prefix_text : tie.Need-slice_bounds-text-end
+array_share_prefix_text c = let e = c.link_file-end.ensures in written_within _ _ e.0 e.1
 
-slice_aggregate_write_all : tie.Need-slice-aggregate-write-all
-slice_aggregate_write_all c = let e = c.before.before.link-file.ensures in sym (length-take-le _ _ (written_within _ _ e.0 e.1))
+slice_aggregate_write_all : tie.Need-slice_bounds-write_all-end
+slice_aggregate_write_all c = let e = c.link_file-end.ensures in sym (length-take-le _ _ (written_within _ _ e.0 e.1))
 
 pub main_spec : {M : Type 1} → statement M
 main_spec =

@@ -5,28 +5,28 @@ use Rattle.bad_bytes.proofs.files.changes_at.Reads as reads
 use Rattle.bad_bytes.proofs.files.changes_at.Lts as lts
 use Rattle.bad_bytes.proofs.files.change.Reads as change-reads
 
-abbrev invariant_loop : tie.invariant-loop
+abbrev invariant_loop : tie.invariant-loop-v
 invariant_loop tally₀ file p v₀ tally v = v ≤ 256
 
-abbrev decreases_loop : tie.decreases-loop
+abbrev decreases_loop : tie.decreases-loop-v
 decreases_loop tally₀ file p v₀ tally v = 256 - v
 
-loop_holds : tie.Need-loop-init invariant_loop decreases_loop
+loop_holds : tie.Need-loop-v-init invariant_loop decreases_loop
 loop_holds c = search rules
 
-cast_change : tie.Need-overflow-cast-change invariant_loop decreases_loop
+cast_change : tie.Need-overflow_cast-v invariant_loop decreases_loop
 cast_change c = search rules
 
 change_requires : tie.Need-change-requires invariant_loop decreases_loop
 change_requires c κs = search rules
 
-add_v : tie.Need-overflow-add-v invariant_loop decreases_loop
+add_v : tie.Need-overflow_add-v invariant_loop decreases_loop
 add_v c = search rules
 
-loop_less : tie.Need-loop-smaller invariant_loop decreases_loop
+loop_less : tie.Need-loop-v-smaller invariant_loop decreases_loop
 loop_less c = search rules
 
-loop_again : tie.Need-loop-preserved invariant_loop decreases_loop
+loop_again : tie.Need-loop-v-preserved invariant_loop decreases_loop
 loop_again c = search rules
 
 returns : tie.Need-returns invariant_loop decreases_loop

@@ -6,19 +6,19 @@ use Rattle.bad_bytes.proofs.files.truncations.Lts as lts
 use Rattle.bad_bytes.proofs.asks.answered.Reads as answered-reads
 use Rattle.bad_bytes.proofs.counts.count.Reads as count-reads
 
-abbrev invariant_loop : tie.invariant-loop
+abbrev invariant_loop : tie.invariant-loop-k
 invariant_loop tally₀ file k₀ tally k = k ≤ 38
 
-abbrev decreases_loop : tie.decreases-loop
+abbrev decreases_loop : tie.decreases-loop-k
 decreases_loop tally₀ file k₀ tally k = 38 - k
 
-loop_holds : tie.Need-loop-init invariant_loop decreases_loop
+loop_holds : tie.Need-loop-k-init invariant_loop decreases_loop
 loop_holds c = search rules
 
-array_share_prefix_file : tie.Need-array-share-prefix-file invariant_loop decreases_loop
+array_share_prefix_file : tie.Need-slice_bounds-file-end invariant_loop decreases_loop
 array_share_prefix_file c = search rules
 
-slice_aggregate_answered : tie.Need-slice-aggregate-answered invariant_loop decreases_loop
+slice_aggregate_answered : tie.Need-slice_bounds-answered-end invariant_loop decreases_loop
 slice_aggregate_answered c = sym (length-take-le _ _ (omega arith))
 
 answered_requires : tie.Need-answered-requires invariant_loop decreases_loop
@@ -27,13 +27,13 @@ answered_requires c κs = search rules
 count_requires : tie.Need-count-requires invariant_loop decreases_loop
 count_requires c κs = search rules
 
-add_k : tie.Need-overflow-add-k invariant_loop decreases_loop
+add_k : tie.Need-overflow_add-k invariant_loop decreases_loop
 add_k c = search rules
 
-loop_less : tie.Need-loop-smaller invariant_loop decreases_loop
+loop_less : tie.Need-loop-k-smaller invariant_loop decreases_loop
 loop_less c = search rules
 
-loop_again : tie.Need-loop-preserved invariant_loop decreases_loop
+loop_again : tie.Need-loop-k-preserved invariant_loop decreases_loop
 loop_again c = search rules
 
 returns : tie.Need-returns invariant_loop decreases_loop

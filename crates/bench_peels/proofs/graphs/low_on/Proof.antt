@@ -5,19 +5,19 @@ use borrow.Author.Rules.{rules}
 use Rattle.bench_peels.proofs.graphs.low_on.Statement.{statement}
 use Rattle.bench_peels.proofs.graphs.low_on.Tie as tie
 
-array_borrow_prefix_x : tie.Need-array-borrow-prefix-x
+array_borrow_prefix_x : tie.Need-slice_bounds-x-end
 array_borrow_prefix_x c = search rules
 
-slice_aggregate_by_low : tie.Need-slice-aggregate-by-low
+slice_aggregate_by_low : tie.Need-slice_bounds-by_low-end
 slice_aggregate_by_low c = sym (length-take-le _ _ (omega arith))
 
-slice_aggregate_by_low_2 : tie.Need-slice-aggregate-by-low-2
+slice_aggregate_by_low_2 : tie.Need-slice_bounds-by_low-end-2
 slice_aggregate_by_low_2 c = search rules
 
-slice_aggregate_by_low_3 : tie.Need-slice-aggregate-by-low-3
+slice_aggregate_by_low_3 : tie.Need-slice_bounds-by_low-end-3
 slice_aggregate_by_low_3 c = search rules
 
-by_low_requires : tie.Need-by-low-requires
+by_low_requires : tie.Need-by_low-end-requires
 by_low_requires c κs = search rules
 
 returns : tie.Need-returns

@@ -8,19 +8,19 @@ use Rattle.link_edges.proofs.Filling.{Filling, filling_begin, filling_room, fill
 use Rattle.link_edges.proofs.load.load_edges.Statement.{statement}
 use Rattle.link_edges.proofs.load.load_edges.Tie as tie
 
-abbrev invariant_loop : tie.invariant-loop
+abbrev invariant_loop : tie.invariant-loop-i
 invariant_loop bytes at w m table₀ p₀ i₀ table p i = Filling bytes w m (rows_at peel_kind w m at bytes) p i table
 
-abbrev decreases_loop : tie.decreases-loop
+abbrev decreases_loop : tie.decreases-loop-i
 decreases_loop bytes at w m table₀ p₀ i₀ table p i = m - i
 
-loop_holds : tie.Need-loop-init invariant_loop decreases_loop
-loop_holds c = let t = ap (replicate most_rows) c.no_edge.ensures in search (rules, filling_begin)
+loop_holds : tie.Need-loop-i-init invariant_loop decreases_loop
+loop_holds c = let t = ap (replicate most_rows) c.no_edge-none.ensures in search (rules, filling_begin)
 
-edge_in_requires : tie.Need-edge-in-requires invariant_loop decreases_loop
-edge_in_requires c κs = let r = filling_room c.before.loop.invariant c.loop-test.true in search rules
+edge_in_requires : tie.Need-edge_in-requires invariant_loop decreases_loop
+edge_in_requires c κs = let r = filling_room c.loop-i.invariant c.loop-i-test.true in search rules
 
-loop_again : tie.Need-loop-preserved invariant_loop decreases_loop
+loop_again : tie.Need-loop-i-preserved invariant_loop decreases_loop
 loop_again c = search (rules, filling_turn)
 
 returns : tie.Need-returns invariant_loop decreases_loop

@@ -3,7 +3,7 @@ use Rattle.link_form.proofs.Reading.{narrow_fits}
 use Rattle.link_edges.proofs.load.vertex_in.Statement.{statement}
 use Rattle.link_edges.proofs.load.vertex_in.Tie as tie
 
-cast_t5 : tie.Need-overflow-cast-t5
+cast_t5 : tie.Need-overflow_cast-result
 cast_t5 c = search (rules, narrow_fits)
 
 pub vertex_in_spec : {M : Type 1} → statement M

@@ -6,7 +6,7 @@ use Rattle.link_edges.proofs.solve.peel_lent.Tie as tie
 returns : tie.Need-returns
 unfolding lent_call
 returns c =
-    let left = c.before.before.before.before.peel-low-of.ensures in
+    let left = c.peel_low_of-end.ensures in
     (left.answer, left.solution_is)
 
 pub peel_lent_spec : {M : Type 1} → statement M

@@ -7,24 +7,24 @@ use borrow.Author.Rules.{rules}
 use Rattle.link_file.proofs.solving.solve.Statement.{statement}
 use Rattle.link_file.proofs.solving.solve.Tie as tie
 
-solve_edges_requires : tie.Need-solve-edges-requires
-solve_edges_requires c κs = let a = c.before.before.before.before.args in subst (λ (k : ℕ). Served k a.n a.m a.bytes.now) c.before.if1.true c.before.before.before.before.requires.0
+solve_edges_requires : tie.Need-solve_edges-requires
+solve_edges_requires c κs = let a = c.args in subst (λ (k : ℕ). Served k a.n a.m a.bytes.now) c.if-kind-eq-PEEL.true c.requires.0
 
-returns : tie.Need-returns
+returns : tie.Need-returns-then-kind-eq-PEEL
 returns c =
-    let a = c.before.before.before.before.before.before.before.args in
-    let e = c.before.before.solve-edges.ensures in
-    let q = sym (by_peeling a.kind a.n a.m a.bytes.now a.solution.now c.before.before.before.before.if1.true) in
+    let a = c.args in
+    let e = c.solve_edges.ensures in
+    let q = sym (by_peeling a.kind a.n a.m a.bytes.now a.solution.now c.if-kind-eq-PEEL.true) in
     (e.0 ∙ ap (λ (r : Outcome). r.answer) q, e.1 ∙ ap (λ (r : Outcome). r.values) q)
 
-solve_rows_requires : tie.Need-solve-rows-requires
-solve_rows_requires c κs = c.before.before.before.before.requires
+solve_rows_requires : tie.Need-solve_rows-requires
+solve_rows_requires c κs = c.requires
 
-returns_2 : tie.Need-returns-2
+returns_2 : tie.Need-returns
 returns_2 c =
-    let a = c.before.before.before.before.before.before.before.args in
-    let e = c.before.before.solve_rows.ensures in
-    let q = sym (by_elimination a.kind a.n (file_rows a.kind a.m a.bytes.now) a.solution.now c.before.before.before.before.if1.false) in
+    let a = c.args in
+    let e = c.solve_rows.ensures in
+    let q = sym (by_elimination a.kind a.n (file_rows a.kind a.m a.bytes.now) a.solution.now c.if-kind-eq-PEEL.false) in
     (e.0 ∙ ap (λ (r : Outcome). r.answer) q, e.1 ∙ ap (λ (r : Outcome). r.values) q)
 
 pub solve_spec : {M : Type 1} → statement M

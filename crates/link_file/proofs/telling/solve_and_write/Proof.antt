@@ -6,22 +6,22 @@ use borrow.Author.Rules.{rules}
 use Rattle.link_file.proofs.telling.solve_and_write.Statement.{statement}
 use Rattle.link_file.proofs.telling.solve_and_write.Tie as tie
 
-solve_requires : tie.Need-solve-requires
-solve_requires c κs = c.before.before.before.before.requires.0
+solve_requires : tie.Need-solve-answer-requires
+solve_requires c κs = c.requires.0
 
-write_outcome_requires : tie.Need-write-outcome-requires
+write_outcome_requires : tie.Need-write_outcome-requires
 write_outcome_requires c κs =
-    let s = c.before.before.before.before.before.before.before.before.before in
+    let s = c in
     let f = s.requires.0.0.few_variables in
     omega (arith, s.requires.1)
 
 returns : tie.Need-returns
 returns c =
-    let s = c.before.before.before.before.before.before.before.before.before.before.before.before in
+    let s = c in
     let a = s.args in
-    let e = c.before.before.write-outcome.ensures in
-    let so = c.before.before.before.before.before.before.before.solve in
-    retold a.at c.before.before.write-outcome.result a.out.now _
+    let e = c.write_outcome.ensures in
+    let so = c.solve-answer in
+    retold a.at c.write_outcome.result a.out.now _
     (outcome_is so.result _ (served a.kind a.n (file_rows a.kind a.m a.bytes.now) a.solution.now) so.ensures.0 so.ensures.1) e.0 e.1
 
 pub solve_and_write_spec : {M : Type 1} → statement M

@@ -7,31 +7,31 @@ use borrow.Author.Rules.{rules}
 use Rattle.link_file.proofs.telling.write_answer.Statement.{statement}
 use Rattle.link_file.proofs.telling.write_answer.Tie as tie
 
-write_served_requires : tie.Need-write-served-requires
+write_served_requires : tie.Need-write_served-requires
 write_served_requires c κs =
-    let s = c.before.before.before.before.before in
+    let s = c in
     let a = s.args in
     let l = loadable a.bytes.now a.kind a.n a.m a.t s.requires.0 in
-    ((served_is l (sym c.before.before.sizes-served.ensures ∙ c.before.if1.true), sym l.listed), s.requires.1)
+    ((served_is l (sym c.sizes_served.ensures ∙ c.if-sizes_served.true), sym l.listed), s.requires.1)
 
-returns : tie.Need-returns
+returns : tie.Need-returns-then-sizes_served
 returns c =
-    let s = c.before.before.before.before.before.before.before.before in
+    let s = c in
     let a = s.args in
     let l = loadable a.bytes.now a.kind a.n a.m a.t s.requires.0 in
-    let e = c.before.before.write-served.ensures in
-    retold a.at c.before.before.write-served.result a.out.now _ (small_text l (sym c.before.before.before.before.before.sizes-served.ensures ∙ c.before.before.before.before.if1.true)) e.0 e.1
+    let e = c.write_served.ensures in
+    retold a.at c.write_served.result a.out.now _ (small_text l (sym c.sizes_served.ensures ∙ c.if-sizes_served.true)) e.0 e.1
 
-write_refusal_requires : tie.Need-write-refusal-requires
-write_refusal_requires c κs = omega (arith, c.before.before.before.before.before.requires.1)
+write_refusal_requires : tie.Need-write_refusal-requires
+write_refusal_requires c κs = omega (arith, c.requires.1)
 
-returns_2 : tie.Need-returns-2
+returns_2 : tie.Need-returns
 returns_2 c =
-    let s = c.before.before.before.before.before.before.before.before in
+    let s = c in
     let a = s.args in
     let l = loadable a.bytes.now a.kind a.n a.m a.t s.requires.0 in
-    let e = c.before.before.write-refusal.ensures in
-    retold a.at c.before.before.write-refusal.result a.out.now _ (large_text l (sym c.before.before.before.before.before.sizes-served.ensures ∙ c.before.before.before.before.if1.false)) e.0 e.1
+    let e = c.write_refusal.ensures in
+    retold a.at c.write_refusal.result a.out.now _ (large_text l (sym c.sizes_served.ensures ∙ c.if-sizes_served.false)) e.0 e.1
 
 pub write_answer_spec : {M : Type 1} → statement M
 write_answer_spec =

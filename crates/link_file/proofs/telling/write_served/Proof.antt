@@ -11,22 +11,22 @@ use borrow.Author.Rules.{rules}
 use Rattle.link_file.proofs.telling.write_served.Statement.{statement}
 use Rattle.link_file.proofs.telling.write_served.Tie as tie
 
-array_borrow_prefix_solution : tie.Need-array-borrow-prefix-solution
-array_borrow_prefix_solution c = c.before.before.requires.0.0.few_variables
+array_borrow_prefix_solution : tie.Need-slice_bounds-solution-end
+array_borrow_prefix_solution c = c.requires.0.0.few_variables
 
-slice_aggregate_solve_and_write : tie.Need-slice-aggregate-solve-and-write
-slice_aggregate_solve_and_write c = let s = c.before.before.before in sym (few_cells s.args.n most_variables s.requires.0.0.few_variables)
+slice_aggregate_solve_and_write : tie.Need-slice_bounds-solve_and_write-end
+slice_aggregate_solve_and_write c = let s = c in sym (few_cells s.args.n most_variables s.requires.0.0.few_variables)
 
-solve_and_write_requires : tie.Need-solve-and-write-requires
-solve_and_write_requires c κs = let s = c.before.before.before.before in (s.requires.0, (few_cells s.args.n most_variables s.requires.0.0.few_variables, s.requires.1))
+solve_and_write_requires : tie.Need-solve_and_write-requires
+solve_and_write_requires c κs = let s = c in (s.requires.0, (few_cells s.args.n most_variables s.requires.0.0.few_variables, s.requires.1))
 
 returns : tie.Need-returns
 returns c =
-    let s = c.before.before.before.before.before.before.before.before in
+    let s = c in
     let a = s.args in
-    let e = c.before.before.before.solve-and-write.ensures in
+    let e = c.solve_and_write.ensures in
     let q = ap (λ (cells : List ℕ). outcome_text (served a.kind a.n (file_rows a.kind a.m a.bytes.now) cells)) (take-replicate a.n most_variables 0 s.requires.0.0.few_variables) in
-    retold a.at c.before.before.before.solve-and-write.result a.out.now _ q e.0 e.1
+    retold a.at c.solve_and_write.result a.out.now _ q e.0 e.1
 
 pub write_served_spec : {M : Type 1} → statement M
 write_served_spec =

@@ -2,10 +2,10 @@ use Rattle.std.proofs.Common.{◌≡◌, ◌+◌, ◌-◌, ◌≤◌, length, ru
 use Rattle.order_runs.proofs.listing.list_row.Statement.{statement}
 use Rattle.order_runs.proofs.listing.list_row.Tie as tie
 
-abbrev invariant_loop : tie.invariant-loop
+abbrev invariant_loop : tie.invariant-loop-v
 invariant_loop n row vars₀ at t₀ v₀ vars t v = (length vars ≡ length vars₀) × (t ≤ at + v) × (v ≤ n)
 
-abbrev decreases_loop : tie.decreases-loop
+abbrev decreases_loop : tie.decreases-loop-v
 decreases_loop n row vars₀ at t₀ v₀ vars t v = n - v
 
 pub list_row_spec : {M : Type 1} → statement M

@@ -2,13 +2,13 @@ use Rattle.std.proofs.Common.{◌≡◌, ◌-◌, ◌*◌, ◌≤◌, length, ru
 use Rattle.order_runs.proofs.listing.list_rows.Statement.{statement}
 use Rattle.order_runs.proofs.listing.list_rows.Tie as tie
 
-abbrev invariant_loop : tie.invariant-loop
+abbrev invariant_loop : tie.invariant-loop-i
 invariant_loop n m rows starts₀ vars₀ t₀ i₀ starts vars t i = (length starts ≡ length starts₀) × (length vars ≡ length vars₀) × (t ≤ 80 * i) × (i ≤ m)
 
-abbrev decreases_loop : tie.decreases-loop
+abbrev decreases_loop : tie.decreases-loop-i
 decreases_loop n m rows starts₀ vars₀ t₀ i₀ starts vars t i = m - i
 
-loop_again : tie.Need-loop-preserved invariant_loop decreases_loop
+loop_again : tie.Need-loop-i-preserved invariant_loop decreases_loop
 loop_again c = (search rules, search rules, search rules, search rules)
 
 pub list_rows_spec : {M : Type 1} → statement M

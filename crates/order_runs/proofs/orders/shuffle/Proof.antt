@@ -2,10 +2,10 @@ use Rattle.std.proofs.Common.{◌≤◌, rules}
 use Rattle.order_runs.proofs.orders.shuffle.Statement.{statement}
 use Rattle.order_runs.proofs.orders.shuffle.Tie as tie
 
-abbrev invariant_loop : tie.invariant-loop
+abbrev invariant_loop : tie.invariant-loop-left
 invariant_loop seed₀ m rows₀ constants₀ left₀ seed rows constants left = left ≤ m
 
-abbrev decreases_loop : tie.decreases-loop
+abbrev decreases_loop : tie.decreases-loop-left
 decreases_loop seed₀ m rows₀ constants₀ left₀ seed rows constants left = left
 
 pub shuffle_spec : {M : Type 1} → statement M

@@ -2,10 +2,10 @@ use Rattle.std.proofs.Common.{◌-◌, ◌≤◌, rules}
 use Rattle.order_runs.proofs.runs.in_orders.Statement.{statement}
 use Rattle.order_runs.proofs.runs.in_orders.Tie as tie
 
-abbrev invariant_loop : tie.invariant-loop
+abbrev invariant_loop : tie.invariant-loop-k
 invariant_loop tally₀ seen₀ seed₀ n m rows₀ constants₀ first k₀ tally seen seed rows constants k = k ≤ 4
 
-abbrev decreases_loop : tie.decreases-loop
+abbrev decreases_loop : tie.decreases-loop-k
 decreases_loop tally₀ seen₀ seed₀ n m rows₀ constants₀ first k₀ tally seen seed rows constants k = 4 - k
 
 pub in_orders_spec : {M : Type 1} → statement M

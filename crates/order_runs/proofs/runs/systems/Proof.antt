@@ -2,10 +2,10 @@ use Rattle.std.proofs.Common.{◌-◌, ◌≤◌, rules}
 use Rattle.order_runs.proofs.runs.systems.Statement.{statement}
 use Rattle.order_runs.proofs.runs.systems.Tie as tie
 
-abbrev invariant_loop : tie.invariant-loop
+abbrev invariant_loop : tie.invariant-loop-k
 invariant_loop tally₀ seen₀ seed₀ k₀ tally seen seed k = k ≤ 320
 
-abbrev decreases_loop : tie.decreases-loop
+abbrev decreases_loop : tie.decreases-loop-k
 decreases_loop tally₀ seen₀ seed₀ k₀ tally seen seed k = 320 - k
 
 pub systems_spec : {M : Type 1} → statement M

@@ -2,7 +2,7 @@ use Rattle.std.proofs.Common.{sym, arith, length-take-le, rules}
 use Rattle.order_runs.proofs.solving.by_lists.Statement.{statement}
 use Rattle.order_runs.proofs.solving.by_lists.Tie as tie
 
-slice_aggregate_eliminate : tie.Need-slice-aggregate-eliminate
+slice_aggregate_eliminate : tie.Need-slice_bounds-eliminate-end
 slice_aggregate_eliminate c = sym (length-take-le _ _ (omega arith))
 
 pub by_lists_spec : {M : Type 1} → statement M

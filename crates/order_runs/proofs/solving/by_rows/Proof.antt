@@ -2,7 +2,7 @@ use Rattle.std.proofs.Common.{sym, arith, length-take-le, rules}
 use Rattle.order_runs.proofs.solving.by_rows.Statement.{statement}
 use Rattle.order_runs.proofs.solving.by_rows.Tie as tie
 
-slice_aggregate_eliminate_rows : tie.Need-slice-aggregate-eliminate-rows
+slice_aggregate_eliminate_rows : tie.Need-slice_bounds-eliminate_rows-end
 slice_aggregate_eliminate_rows c = sym (length-take-le _ _ (omega arith))
 
 pub by_rows_spec : {M : Type 1} → statement M

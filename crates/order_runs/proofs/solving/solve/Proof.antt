@@ -2,13 +2,13 @@ use Rattle.std.proofs.Common.{sym, arith, length-take-le, rules}
 use Rattle.order_runs.proofs.solving.solve.Statement.{statement}
 use Rattle.order_runs.proofs.solving.solve.Tie as tie
 
-slice_aggregate_by_all : tie.Need-slice-aggregate-by-all
+slice_aggregate_by_all : tie.Need-slice_bounds-by_all-end
 slice_aggregate_by_all c = sym (length-take-le _ _ (omega arith))
 
-slice_aggregate_by_all_2 : tie.Need-slice-aggregate-by-all-2
+slice_aggregate_by_all_2 : tie.Need-slice_bounds-by_all-end-2
 slice_aggregate_by_all_2 c = sym (length-take-le _ _ (omega arith))
 
-slice_aggregate_by_all_3 : tie.Need-slice-aggregate-by-all-3
+slice_aggregate_by_all_3 : tie.Need-slice_bounds-by_all-end-3
 slice_aggregate_by_all_3 c = sym (length-take-le _ _ (omega arith))
 
 pub solve_spec : {M : Type 1} → statement M

@@ -2,8 +2,8 @@ use borrow.Author.Rules.{rules}
 use Rattle.replay_solvers.proofs.checks.check_case.Statement.{statement}
 use Rattle.replay_solvers.proofs.checks.check_case.Tie as tie
 
-part_check_end : tie.Need-slice-bounds-check-end
-part_check_end c = let h = c.before.before.before.before.before.before.before.before.before.before.before.before.before.before.before.before.before.before.before.load-numbers.ensures.0 in search rules
+part_check_end : tie.Need-slice_bounds-check-end
+part_check_end c = let h = c.load_numbers-b.ensures.0 in search rules
 
 pub check_case_spec : {M : Type 1} → statement M
 check_case_spec =

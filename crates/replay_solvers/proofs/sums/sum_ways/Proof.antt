@@ -3,10 +3,10 @@ use borrow.Author.Rules.{rules}
 use Rattle.replay_solvers.proofs.sums.sum_ways.Statement.{statement}
 use Rattle.replay_solvers.proofs.sums.sum_ways.Tie as tie
 
-abbrev invariant_loop : tie.invariant-loop
+abbrev invariant_loop : tie.invariant-loop-way
 invariant_loop left right left-c right-c said constant found way₀ way = Unit {0}
 
-abbrev decreases_loop : tie.decreases-loop
+abbrev decreases_loop : tie.decreases-loop-way
 decreases_loop left right left-c right-c said constant found way₀ way = 3 - way
 
 pub sum_ways_spec : {M : Type 1} → statement M

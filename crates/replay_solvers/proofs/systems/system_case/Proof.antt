@@ -2,8 +2,8 @@ use borrow.Author.Rules.{rules}
 use Rattle.replay_solvers.proofs.systems.system_case.Statement.{statement}
 use Rattle.replay_solvers.proofs.systems.system_case.Tie as tie
 
-part_system_ways_end : tie.Need-slice-bounds-system-ways-end
-part_system_ways_end c = let h = c.before.before.before.before.before.before.before.before.before.before.before.before.before.before.before.before.before.before.before.load-numbers.ensures.0 in search rules
+part_system_ways_end : tie.Need-slice_bounds-system_ways-end
+part_system_ways_end c = let h = c.load_numbers-b.ensures.0 in search rules
 
 pub system_case_spec : {M : Type 1} → statement M
 system_case_spec =

@@ -3,10 +3,10 @@ use borrow.Author.Rules.{rules}
 use Rattle.replay_solvers.proofs.systems.system_ways.Statement.{statement}
 use Rattle.replay_solvers.proofs.systems.system_ways.Tie as tie
 
-abbrev invariant_loop : tie.invariant-loop
+abbrev invariant_loop : tie.invariant-loop-way
 invariant_loop lazy n m starts vars constants said found way₀ way = Unit {0}
 
-abbrev decreases_loop : tie.decreases-loop
+abbrev decreases_loop : tie.decreases-loop-way
 decreases_loop lazy n m starts vars constants said found way₀ way = 5 - way
 
 pub system_ways_spec : {M : Type 1} → statement M
