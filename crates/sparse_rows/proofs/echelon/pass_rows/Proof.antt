@@ -21,12 +21,12 @@ passed c =
     let s = c.loop-k.invariant in
     let h = c.loop-k-test.true in
     elim c.if-v-u.branch [
-      then-v-u+else-v-u-2+else-numbers-lens-eq0 w ↦
-      rw (w.numbers-is, w.words-is, w.u-is) (
-        passing_swap s.0 h (omega (arith, w.if-v-u.true, w.if-v-u-2.false)) w.if-numbers-lens-eq0.false w.swap_rows.ensures,
-        w.numbers-1.given ∙ s.1,
-        w.words-1.given ∙ s.2,
-      )
+      | then-v-u+else-v-u-2+else-numbers-lens-eq0 w ↦
+          rw (w.numbers-is, w.words-is, w.u-is) (
+            passing_swap s.0 h (omega (arith, w.if-v-u.true, w.if-v-u-2.false)) w.if-numbers-lens-eq0.false w.swap_rows.ensures,
+            w.numbers-1.given ∙ s.1,
+            w.words-1.given ∙ s.2,
+          )
       | else-v-u w ↦ rw (w.numbers-is, w.words-is, w.u-is) (passing_above s.0 h w.if-v-u.false, s.1, s.2)
     ]
 
