@@ -24,7 +24,7 @@ below() { # CRATE
 # A static library as `rt lib` makes it, by the compiler of the folder TOOLCHAIN, over the libraries that lie in each crate's out/.
 static_library() ( # CRATE TOOLCHAIN FILE
     crate=$1 toolchain=$2 file=$3
-    set -- --crate-name "$crate" src/lib.rt --crate-type staticlib --extern "std=$kit/rlibs/std.rlib" -L "dependency=$kit/rlibs"
+    set -- --crate-name "$crate" src/lib.rt --crate-type staticlib --cpu x86-64 --extern "std=$kit/rlibs/std.rlib" -L "dependency=$kit/rlibs"
     for name in $(uses "$crate"); do set -- "$@" --extern "$name=$tree/crates/$name/out/rlib/$name.rlib"; done
     for name in $(below "$crate"); do set -- "$@" -L "dependency=$tree/crates/$name/out/rlib"; done
     cd "$tree/crates/$crate"
@@ -40,13 +40,13 @@ left_by_gate() ( # CRATE
     done
 )
 
-# The static library of a proved crate, in FILE; all that is said while it is made goes to LOG, and is shown if it fails.
+# The static library of a proved crate, in FILE, for every x86-64; all that is said while it is made goes to LOG, and is shown if it fails.
 # Right behind `rt ci`, where `.ci/run` sets RT_CI_PASSED, the libraries that it left are taken: `rt lib` would prove them again.
 proved_library() ( # CRATE FILE LOG
     if [ -n "${RT_CI_PASSED:-}" ] && left_by_gate "$1"; then
         static_library "$1" "$tools" "$2" >"$3" 2>&1
     else
-        cd "$tree/crates/$1" && rt lib >"$3" 2>&1 && cp "out/lib$1.a" "$2"
+        cd "$tree/crates/$1" && rt lib --cpu x86-64 >"$3" 2>&1 && cp "out/lib$1.a" "$2"
     fi || {
         cat "$3" >&2
         exit 1

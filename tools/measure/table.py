@@ -17,8 +17,8 @@ UNUSUAL = {'sparse/long': [(16, 12), (24, 20), (31, 28)], 'sparse/falling': [(16
 def qemu(out, command, symbols):
     """The count of each phase, and the symbols that have most of it."""
     plugin = '%s/cross/libicount.so%s' % (out, ',symbols=%s' % symbols if symbols != '0' else '')
-    # x86-64-v2, for which rt compiles, and no more: with `rep stosb` the emulator would count every byte that memset writes
-    run = subprocess.run([out + '/cross/qemu', '-cpu', 'Nehalem', '-plugin', plugin] + command, capture_output=True, text=True, check=True)
+    # a plain x86-64: with `rep stosb` the emulator would count every byte that memset writes
+    run = subprocess.run([out + '/cross/qemu', '-cpu', 'qemu64', '-plugin', plugin] + command, capture_output=True, text=True, check=True)
     phases = re.split(r'^phase \d+: ', run.stderr, flags=re.M)[1:]
     return run.stdout.split(), [(int(p.split('\n')[0]), p.split('\n')[1:-1]) for p in phases]
 

@@ -1,9 +1,7 @@
 -- The invariant is `Walking`, whose laws answer the needs.
-use mathlib.Core.Path.{◌≡◌, sym, ◌∙◌}
+use mathlib.Core.Path.{sym, ◌∙◌}
 use mathlib.Core.Logic.{inl, inr}
 use Prim.Native.Nat.{◌-◌}
-use native.Mathlib.Omega.{arith}
-use lib.ListN.{length-set}
 use borrow.Author.Rules.{rules}
 use Rattle.dense_walk.proofs.Walking.{Walking, walking_begin, walking_place, walking_skip, walking_turn, walking_end}
 use Rattle.dense_walk.proofs.walk.eliminate.Statement.{statement}

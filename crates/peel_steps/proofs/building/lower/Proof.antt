@@ -1,5 +1,4 @@
 use Rattle.peel_steps.proofs.BuildLaws.{lower_here, lower_before}
-use native.Mathlib.Omega.{arith}
 use borrow.Author.Rules.{rules}
 use Rattle.peel_steps.proofs.building.lower.Statement.{statement}
 use Rattle.peel_steps.proofs.building.lower.Tie as tie

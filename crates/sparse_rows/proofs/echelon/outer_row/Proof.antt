@@ -1,6 +1,6 @@
 -- Row i passes some rows, meets one, and so on: what is left of its round gives what all of it gives, and cancels what all of it cancels less what fell away.
 use mathlib.Core.Path.{◌≡◌, refl, ◌∙◌}
-use Prim.Native.Nat.{ℕ, ◌-◌}
+use Prim.Native.Nat.{◌-◌}
 use lib.ListN.{length}
 use Rattle.rows.proofs.Holding.{held}
 use Rattle.sparse_rows.specs.Reduce.{Passes}
