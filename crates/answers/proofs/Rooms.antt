@@ -1,8 +1,7 @@
 -- Rooms fit a usize, and split into the parts that the engines lay out.
-use mathlib.Core.Path.{◌≡◌}
-use Prim.Native.Nat.{ℕ, ◌*◌, ◌≤◌, ◌<◌}
+use Prim.Native.Nat.{ℕ, ◌*◌, ◌≤◌}
 use native.Mathlib.Nat.{mul-le-mul}
-use Rattle.answers.specs.Sizes.{max_variables, max_equations, max_row_words, lazy_numbers}
+use Rattle.answers.specs.Sizes.{max_variables, max_equations, max_row_words}
 
 -- m rows of n numbers: no more than the largest m times the largest n
 pub cells_fit : (n m : ℕ) → n ≤ max_variables → m ≤ max_equations → m * n ≤ max_equations * max_variables

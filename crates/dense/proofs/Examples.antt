@@ -3,18 +3,18 @@
 use mathlib.Core.Path.{◌≡◌, refl}
 use mathlib.Core.Logic.{inl, inr}
 use mathlib.Core.Bool.{Bool, true}
-use mathlib.Core.List.{List, [], ◌∷◌, ◌++◌}
+use mathlib.Core.List.{[], ◌∷◌, ◌++◌}
 use Prim.Native.Nat.{ℕ, ◌+◌, ◌-◌, ◌^◌}
 use lib.ListN.{get_or, replicate}
 use lib.Dec.{ltb}
 use Rattle.areas.specs.Stretch.{stretch, put, cleared}
 use Rattle.gf2.specs.Equation.{eval_vars}
 use Rattle.gf2.specs.Ours.{any_ours, all_ours, our_part}
-use Rattle.answers.specs.Calls.{Call, refused}
+use Rattle.answers.specs.Calls.{refused}
 use Rattle.answers.specs.Sizes.{max_variables, max_equations, max_row_words}
 use Rattle.answers.specs.declared.Answer.TheVariants.{Solved, TooLarge, BadShape, BadEntry, WrongSolution, ShortArea, Unsolvable}
 use Rattle.answers.specs.declared.Rules.TheVariants.{Kept, Broken}
-use Rattle.dense_rows.specs.Bits.{Row, bit_at, columns_from, empty_from, xor_words}
+use Rattle.dense_rows.specs.Bits.{bit_at, columns_from, empty_from, xor_words}
 use Rattle.dense_rows.specs.Rows.{row_at, rows_from}
 use Rattle.dense_rows.specs.Steps.{pivot_from, from_word, swap_rows, xor_from, clear_row}
 use Rattle.dense_walk.specs.Eliminate.{topped, column, walk, residue, pin, back_sub, finish, dense_elimination}

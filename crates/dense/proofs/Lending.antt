@@ -1,6 +1,6 @@
 -- The rules 1 to 3 of a dense system, exactly: they are kept where and only where it fits, 3 names the lowest row that has a bit at column n or above,
 -- and what lies past the first m rows and constants is not read.
-use mathlib.Core.Path.{◌≡◌, refl, sym, ap, ap₂, ◌∙◌, subst}
+use mathlib.Core.Path.{◌≡◌, refl, ap, ap₂, subst}
 use mathlib.Core.Logic.{◌↔◌}
 use mathlib.Core.List.{List, ◌∷◌, ◌++◌}
 use mathlib.Core.Bool.{Bool, true, false, ◌&&◌, false≢true}
@@ -10,7 +10,6 @@ use native.Mathlib.Omega.{arith}
 use borrow.Author.Tests.{le-leb}
 use lib.ListN.{length, get_or, drop, length-append, get_or-append}
 use lib.Dec.{leb, leb→le}
-use Rattle.gf2.specs.Equation.{Each}
 use Rattle.gf2.proofs.Each.{each_at, each_take, each_drop}
 use Rattle.gf2.proofs.Tests.{true→T}
 use Rattle.areas.specs.Stretch.{stretch}
@@ -31,7 +30,7 @@ use Rattle.dense_rows.proofs.Emptiness.{fits_no_bit, unfit_bit, fits_exactly}
 use Rattle.dense_rows.proofs.HeldLaws.{rows_length, row_of, rows_each}
 use Rattle.dense.specs.Call.{row_rules, dense_rules, dense_call}
 use Rattle.dense.specs.Fits.{DenseFits}
-use Rattle.dense.proofs.RowRules.{rules_fit, fit_rules, Lowest, rules_lowest}
+use Rattle.dense.proofs.RowRules.{rules_fit, fit_rules, rules_lowest}
 
 -- ---- the tests
 

@@ -1,23 +1,21 @@
 -- The run: the loaded system, what the walk and back substitution make of it, and the cleared room.
-use mathlib.Core.Path.{◌≡◌, refl, sym, ap, ap₂, ◌∙◌, subst}
-use mathlib.Core.List.{List, [], ◌∷◌, ◌++◌, append-nil}
+use mathlib.Core.Path.{◌≡◌, sym, ap, ap₂, ◌∙◌}
+use mathlib.Core.List.{List, ◌++◌, append-nil}
 use mathlib.Core.Bool.{Bool, true, false}
-use Prim.Native.Nat.{ℕ, zero, suc, ◌+◌, ◌-◌, ◌*◌, ◌<◌, ◌≤◌}
+use Prim.Native.Nat.{ℕ, ◌+◌, ◌-◌, ◌*◌, ◌<◌, ◌≤◌}
 use native.Mathlib.Nat.{zero-add}
 use native.Mathlib.Omega.{arith}
 use lib.ListN.{length, get_or, take, drop, replicate, length-replicate}
 use lib.Seq.{get_or-take, get_or-drop, length-take-le}
-use Rattle.gf2.specs.Equation.{Equation, Each, sum}
-use Rattle.gf2.specs.Result.{Result, unsolvable, ok}
+use Rattle.gf2.specs.Equation.{Each}
+use Rattle.gf2.specs.Result.{unsolvable, ok}
 use Rattle.gf2.proofs.SymDiff.{each_sym_diff}
 use Rattle.areas.specs.Stretch.{stretch, put, zeroed, cleared}
 use Rattle.areas.proofs.Stretch.{stretch-stretch, stretch-put_before, stretch-put_within, length-put, drop-put_after, get_or-put, put_all, cleared_is_put, cleared_same, drop_agree}
 use Rattle.areas.proofs.Offsets.{row_before}
-use Rattle.answers.specs.declared.Rules.{Rules}
 use Rattle.answers.specs.declared.Rules.TheVariants.{Kept}
-use Rattle.dense_rows.specs.Bits.{Row, bit_at, columns_from, columns, equation_of}
+use Rattle.dense_rows.specs.Bits.{Row, bit_at, columns_from, columns}
 use Rattle.dense_rows.specs.Rows.{row_at, rows_of, held, Became}
-use Rattle.dense_rows.specs.Steps.{no_row}
 use Rattle.dense_rows.proofs.ColumnLaws.{columns_from_add, columns_from_none, columns_below}
 use Rattle.dense_rows.proofs.HeldLaws.{rows_length, rows_are, row_of, rows_wide, rows_each}
 use Rattle.dense_walk.specs.Eliminate.{Walk, walk, residue, back_sub, finish, dense_elimination}

@@ -1,5 +1,5 @@
 -- The call of dense elimination: the rules of what is lent, the answer, and what is left in every lent cell.
-use Rattle.std.specs.Prelude.{List, [], ◌∷◌, Bool, true, false, ◌&&◌, ℕ, suc, ◌*◌, length, leb}
+use Rattle.std.specs.Prelude.{List, [], ◌∷◌, true, false, ◌&&◌, ℕ, suc, ◌*◌, length, leb}
 use Rattle.gf2.specs.Equation.{Equation}
 use Rattle.answers.specs.Sizes.{max_variables, max_equations, max_row_words, dense_numbers, dense_words}
 use Rattle.answers.specs.Calls.{Call, pick, solver_call}

@@ -1,17 +1,16 @@
 -- Bits of words: the digits of a number, the XOR of words is the XOR of their bits, and a word with no bit is 0.
-use mathlib.Core.Path.{◌≡◌, refl, sym, ap, ap₂, ◌∙◌, subst}
+use mathlib.Core.Path.{◌≡◌, refl, sym, ap, ◌∙◌, subst}
 use mathlib.Core.Logic.{◌≢◌}
-use mathlib.Core.List.{List, [], ◌∷◌, ◌++◌}
-use mathlib.Core.Bool.{Bool, true, false, true≢false, false≢true}
-use Prim.Native.Nat.{ℕ, zero, suc, ◌+◌, ◌-◌, ◌*◌, ◌/◌, ◌%◌, ◌^◌, ◌<◌, ◌≤◌}
+use mathlib.Core.List.{List, [], ◌∷◌}
+use mathlib.Core.Bool.{true}
+use Prim.Native.Nat.{ℕ, zero, suc, ◌+◌, ◌-◌, ◌/◌, ◌%◌, ◌^◌, ◌<◌, ◌≤◌}
 use native.Mathlib.Nat.{mod-lt, zero-lt-suc, div-one, zero-div}
 use native.Mathlib.Numerals.{add-one, one-add}
 use native.Mathlib.Omega.{arith}
-use lib.ListN.{length, get_or, take, drop, get_or-append}
-use lib.Seq.{get_or-take, get_or-drop, get_or-append-add, length-take-le}
+use lib.ListN.{get_or}
 use lib.Arith.{lt-one}
 use lib.Pow.{shr-shr, shr_lt}
-use lib.Bits.{bit_xor, differ, xor_shr, xor_mod, xor_zero_r}
+use lib.Bits.{bit_xor, xor_shr, xor_mod, xor_zero_r}
 use lib.Dec.{eqb}
 use Rattle.gf2.specs.Equation.{xor_bool}
 use Rattle.dense_rows.specs.Bits.{bit_at, xor_words}

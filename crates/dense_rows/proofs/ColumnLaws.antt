@@ -1,20 +1,17 @@
 -- The set columns of a row: in order, by their bits, and the XOR of two rows reads as the sum of the equations.
-use mathlib.Core.Path.{◌≡◌, refl, sym, ap, ap₂, ◌∙◌, subst}
-use mathlib.Core.Logic.{◌≢◌}
+use mathlib.Core.Path.{◌≡◌, refl, sym, ap, ap₂, ◌∙◌}
 use mathlib.Core.List.{List, [], ◌∷◌, ◌++◌}
-use mathlib.Core.Bool.{Bool, true, false, true≢false, false≢true, ◌||◌}
-use Prim.Native.Nat.{ℕ, zero, suc, ◌+◌, ◌-◌, ◌*◌, ◌/◌, ◌%◌, ◌^◌, ◌<◌, ◌≤◌}
+use mathlib.Core.Bool.{Bool, true, false, ◌||◌}
+use Prim.Native.Nat.{ℕ, zero, suc, ◌+◌, ◌-◌, ◌<◌, ◌≤◌}
 use native.Mathlib.Nat.{add-zero, zero-add, add-suc, suc-add, le_refl}
 use native.Mathlib.Decide.{dec_lt}
 use native.Mathlib.Omega.{arith}
-use lib.Dec.{eqb}
-use Rattle.gf2.specs.Equation.{Equation, Each, Above, Increasing, Rising, lists, xor_bool, sym_diff, sum}
-use Rattle.gf2.specs.Canonical.{Lead}
+use Rattle.gf2.specs.Equation.{Each, Increasing, Rising, lists, xor_bool, sym_diff}
 use Rattle.gf2.proofs.Tests.{eqb_same, eqb_ne}
 use Rattle.gf2.proofs.SymDiff.{rising_from}
-use Rattle.gf2.proofs.VarLists.{above_not_listed, sym_diff_unique}
+use Rattle.gf2.proofs.VarLists.{sym_diff_unique}
 use Rattle.gf2.proofs.Order.{rising_increasing, rising_below}
-use Rattle.dense_rows.specs.Bits.{Row, bit_at, Clear, columns_from, columns, equation_of, xor_words}
+use Rattle.dense_rows.specs.Bits.{bit_at, Clear, columns_from, columns, xor_words}
 use Rattle.dense_rows.proofs.BitLaws.{bit_at_xor}
 
 -- ---- the cases

@@ -13,7 +13,7 @@ use lib.Seq.{drop-cons, get_or-drop}
 use lib.Pow.{shr-shr, shr_lt}
 use lib.Dec.{eqb}
 use Rattle.gf2.proofs.Each.{each_drop}
-use Rattle.gf2.proofs.Tests.{eqb_true, eqb_ne, eqb_same}
+use Rattle.gf2.proofs.Tests.{eqb_true, eqb_ne}
 use Rattle.areas.specs.Stretch.{stretch}
 use Rattle.areas.proofs.Stretch.{length-stretch, get_or-stretch}
 use Rattle.dense_rows.specs.Bits.{bit_at, empty_from, row_fits}

@@ -8,9 +8,7 @@ use lib.ListN.{length, get_or, drop, drop_of_length-le}
 use lib.Seq.{drop-cons}
 use lib.Bits.{bit_and}
 use Rattle.dense_rows.specs.Rows.{held}
-use Rattle.dense_rows.specs.Bits.{Row}
 use Rattle.dense_rows.specs.Steps.{pivot_from, no_row}
-use Rattle.dense_rows.specs.declared.Pivot.{Pivot}
 use Rattle.dense_rows.specs.declared.Pivot.TheVariants.{At, Nowhere}
 use Rattle.dense_rows.proofs.HeldLaws.{rows_length}
 use Rattle.dense_rows.proofs.SearchLaws.{pivot_here, pivot_later}

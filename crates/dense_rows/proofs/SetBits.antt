@@ -1,15 +1,15 @@
 -- The set bits of a word, lowest first: how a loop takes them one by one, and that a row's words list its columns.
-use mathlib.Core.Path.{◌≡◌, refl, sym, ap, ap₂, ◌∙◌, subst}
+use mathlib.Core.Path.{◌≡◌, refl, sym, ap, ap₂, ◌∙◌}
 use mathlib.Core.List.{List, [], ◌∷◌, ◌++◌}
 use mathlib.Core.Bool.{Bool, true, false, true≢false, false≢true}
-use Prim.Native.Nat.{ℕ, zero, suc, ◌+◌, ◌-◌, ◌*◌, ◌/◌, ◌%◌, ◌^◌, ◌<◌, ◌≤◌, min}
-use native.Mathlib.Nat.{mod-lt, zero-lt-suc, div-one, add-zero, add-suc, suc-add}
+use Prim.Native.Nat.{ℕ, zero, suc, ◌+◌, ◌-◌, ◌*◌, ◌/◌, ◌%◌, ◌^◌, ◌<◌, ◌≤◌}
+use native.Mathlib.Nat.{mod-lt, zero-lt-suc, div-one, add-zero}
 use native.Mathlib.Numerals.{add-one}
 use native.Mathlib.Omega.{arith}
 use lib.ListN.{length, get_or}
 use lib.Pow.{shr-shr, shr_lt}
-use lib.Count.{count_trailing_zeros, under}
-use lib.Bits.{bit_xor, bit_and, and_step, and_self, and_le_l, and_le_r, xor_zero_r}
+use lib.Count.{count_trailing_zeros}
+use lib.Bits.{bit_xor, bit_and, and_step, and_self, and_le_r, xor_zero_r}
 use lib.Dec.{eqb}
 use Rattle.gf2.specs.Equation.{Each, eval_vars}
 use Rattle.gf2.proofs.XorLaws.{xor_assoc}
@@ -18,7 +18,7 @@ use Rattle.gf2.proofs.EachMap.{each_front, each_back}
 use Rattle.areas.specs.Stretch.{stretch}
 use Rattle.areas.proofs.Stretch.{get_or-stretch}
 use Rattle.dense_rows.specs.Bits.{bit_at, columns_from, set_bits}
-use Rattle.dense_rows.proofs.ColumnLaws.{columns_from_add, columns_cases}
+use Rattle.dense_rows.proofs.ColumnLaws.{columns_from_add}
 use Rattle.dense_rows.proofs.BitLaws.{digit_cases}
 
 -- ---- the cases

@@ -1,19 +1,19 @@
 -- Rows that change places or are XORed from a word on: what the rows say as equations, where the words before are zero.
-use mathlib.Core.Path.{◌≡◌, refl, sym, ap, ap₂, ◌∙◌, subst}
+use mathlib.Core.Path.{◌≡◌, refl, sym, ap, ap₂, ◌∙◌}
 use mathlib.Core.List.{List, [], ◌∷◌, ◌++◌}
 use mathlib.Core.Bool.{Bool, true, false, true≢false}
-use Prim.Native.Nat.{ℕ, zero, suc, ◌+◌, ◌-◌, ◌*◌, ◌/◌, ◌%◌, ◌^◌, ◌<◌, ◌≤◌, min}
+use Prim.Native.Nat.{ℕ, suc, ◌+◌, ◌-◌, ◌*◌, ◌/◌, ◌%◌, ◌^◌, ◌<◌, ◌≤◌, min}
 use native.Mathlib.Nat.{mod-lt, zero-lt-suc}
 use native.Mathlib.Decide.{dec_lt}
 use native.Mathlib.Omega.{arith}
 use lib.ListN.{length, get_or, take, drop, set, length-append, length-take, length-drop, take-append-drop, get_or-append, get_or-eq_default}
-use lib.Seq.{length-take-le, get_or-take, get_or-drop, get_or-append-add, ext_get_or, set-get_or}
+use lib.Seq.{length-take-le, get_or-take, get_or-drop, get_or-append-add, ext_get_or}
 use lib.Bits.{bit_xor, xor_zero_r}
 use lib.Dec.{eqb}
-use Rattle.gf2.specs.Equation.{Equation, Each, xor_bool, sum}
+use Rattle.gf2.specs.Equation.{Each, xor_bool, sum}
 use Rattle.gf2.proofs.Each.{each_at}
-use Rattle.gf2.proofs.Tests.{xor_bool_false, eqb_true}
-use Rattle.dense_rows.specs.Bits.{Row, bit_at, Clear, has_bit, columns, equation_of, xor_words}
+use Rattle.gf2.proofs.Tests.{xor_bool_false}
+use Rattle.dense_rows.specs.Bits.{Row, bit_at, Clear, has_bit, equation_of, xor_words}
 use Rattle.dense_rows.specs.Steps.{from_word, no_row, swap_rows, xor_from, clear_row}
 use Rattle.dense_rows.proofs.BitLaws.{digit_cases, no_digits, get_or-xor_words, bit_at_xor, bit_at_word}
 use Rattle.dense_rows.proofs.ColumnLaws.{columns_agree, columns_xor}

@@ -1,5 +1,5 @@
 -- What a column does with rows: the pivot search, rows that change places, and the XOR with the pivot row.
-use Rattle.std.specs.Prelude.{List, [], ◌∷◌, ◌++◌, map, Bool, true, false, ℕ, suc, ◌+◌, ◌/◌, take, drop, get_or, set}
+use Rattle.std.specs.Prelude.{List, [], ◌∷◌, ◌++◌, map, true, false, ℕ, suc, ◌+◌, ◌/◌, take, drop, get_or, set}
 use Rattle.std.specs.Int.Bits.{bit_xor}
 use Rattle.dense_rows.specs.Bits.{Row, has_bit, xor_words}
 use Rattle.dense_rows.specs.declared.Pivot.{Pivot}

@@ -1,15 +1,14 @@
 -- A loop that clears the rows below the pivot row, one row a turn.
-use mathlib.Core.Path.{◌≡◌, refl, sym, ap, ap₂, ◌∙◌, subst}
+use mathlib.Core.Path.{◌≡◌, refl, sym, ap, ap₂, ◌∙◌}
 use mathlib.Core.List.{List, [], ◌∷◌, ◌++◌, map, append_assoc, append-nil}
-use mathlib.Core.Bool.{true, false}
-use Prim.Native.Nat.{ℕ, zero, suc, ◌+◌, ◌*◌, ◌/◌, ◌<◌, ◌≤◌}
+use Prim.Native.Nat.{ℕ, suc, ◌+◌, ◌*◌, ◌<◌, ◌≤◌}
 use native.Mathlib.Nat.{ne_of_lt}
 use native.Mathlib.Numerals.{add-one}
 use native.Mathlib.Omega.{arith}
 use lib.ListN.{length, get_or, set, take, drop, drop_of_length-le, take-append-drop}
 use lib.Seq.{drop-cons, take-suc, take-suc-set, drop-set-lt, get_or-set_other, set-set, set-get_or, take_all}
 use lib.Bits.{bit_and}
-use Rattle.dense_rows.specs.Bits.{Row, has_bit}
+use Rattle.dense_rows.specs.Bits.{Row}
 use Rattle.dense_rows.specs.Rows.{held, Became}
 use Rattle.dense_rows.specs.Steps.{no_row, xor_from, clear_row, clear_below, swap_rows, from_word}
 use Rattle.dense_rows.proofs.StepLaws.{clear_row-set, clear_row_unset}

@@ -1,15 +1,14 @@
 -- Back substitution over stairs: it meets every pivot row, and is 0 where no row begins.
-use mathlib.Core.Path.{◌≡◌, refl, sym, ap, ap₂, ◌∙◌, subst}
+use mathlib.Core.Path.{◌≡◌, refl, ap, ◌∙◌}
 use mathlib.Core.Logic.{◌≢◌, ◌⊎◌, inl, inr}
 use mathlib.Core.List.{List, [], ◌∷◌}
 use mathlib.Core.Bool.{true}
-use Prim.Native.Nat.{ℕ, zero, suc, ◌+◌, ◌-◌, ◌<◌, ◌≤◌}
-use native.Mathlib.Decide.{dec_lt}
+use Prim.Native.Nat.{ℕ, zero, suc, ◌-◌, ◌<◌}
 use native.Mathlib.Omega.{arith}
 use lib.ListN.{length, get_or, set, length-set}
 use lib.Seq.{get_or-set_other}
-use lib.Bits.{bit_xor, xor_zero_l}
-use Rattle.gf2.specs.Equation.{Equation, eqn, Each, Above, Rising, eval_vars, Meets, MeetsAll}
+use lib.Bits.{bit_xor}
+use Rattle.gf2.specs.Equation.{Equation, Each, Above, eval_vars, MeetsAll}
 use Rattle.gf2.specs.Canonical.{Lead}
 use Rattle.gf2.proofs.Tests.{Tri, less, same, more, tri}
 use Rattle.gf2.proofs.Order.{rising_above}

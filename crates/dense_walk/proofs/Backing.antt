@@ -1,18 +1,18 @@
 -- The loop of back substitution, and the columns of a pivot's row from the pivot's word on.
-use mathlib.Core.Path.{◌≡◌, refl, sym, ap, ap₂, ◌∙◌, subst}
+use mathlib.Core.Path.{◌≡◌, refl, sym, ap, ap₂, ◌∙◌}
 use mathlib.Core.List.{List, [], ◌∷◌, ◌++◌, append-nil}
 use Prim.Native.Nat.{ℕ, zero, suc, ◌+◌, ◌-◌, ◌*◌, ◌/◌, ◌<◌, ◌≤◌}
 use native.Mathlib.Nat.{zero-add, le_refl}
 use native.Mathlib.Numerals.{add-one}
 use native.Mathlib.Omega.{arith}
-use lib.ListN.{length, get_or, set, take, drop, length-set, length-take, drop_of_length-le}
+use lib.ListN.{length, get_or, set, take, drop, length-set, drop_of_length-le}
 use lib.Seq.{drop-cons, get_or-take, length-take-le}
 use lib.Bits.{bit_xor}
 use Rattle.gf2.specs.Equation.{Each, Rising, eval_vars}
 use Rattle.gf2.proofs.Each.{each_at}
 use Rattle.gf2.proofs.EachMap.{each_back}
 use Rattle.areas.specs.Stretch.{stretch}
-use Rattle.areas.proofs.Offsets.{row_before, row_place}
+use Rattle.areas.proofs.Offsets.{row_before}
 use Rattle.dense_rows.specs.Bits.{Row, Clear, columns_from, columns}
 use Rattle.dense_rows.specs.Rows.{row_at, held}
 use Rattle.dense_rows.specs.Steps.{no_row}
@@ -21,7 +21,6 @@ use Rattle.dense_rows.proofs.HeldLaws.{rows_length, row_of, held_constant}
 use Rattle.dense_rows.proofs.SetBits.{onward}
 use Rattle.dense_walk.specs.Eliminate.{pin, back_sub}
 use Rattle.dense_walk.specs.Stairs.{Stairs, Ready}
-use Rattle.dense_walk.proofs.BackLaws.{back_length}
 
 -- ---- the columns of a row from a word on
 

@@ -1,7 +1,7 @@
 -- What the lent areas hold when the walk has ended.
 use Rattle.std.specs.Prelude.{◌≡◌, List, ℕ, ◌+◌, ◌*◌, ◌≤◌, length, take, drop}
 use Rattle.dense_rows.specs.Rows.{held}
-use Rattle.dense_walk.specs.Eliminate.{Walk, walk}
+use Rattle.dense_walk.specs.Eliminate.{walk}
 
 -- the numbers hold the pivots, and the words the pivot rows and then the rows that are left; the rest is untouched
 pub record Eliminated (n m w : ℕ) (numbers words : List ℕ) (rank : ℕ) (numbers' words' : List ℕ) : Type 0 where

@@ -5,7 +5,6 @@ use Rattle.gf2.specs.Equation.{eval_vars}
 use Rattle.gf2.specs.Result.{Result, unsolvable, ok}
 use Rattle.dense_rows.specs.Bits.{Row, columns}
 use Rattle.dense_rows.specs.Steps.{pivot_from, swap_rows, clear_row}
-use Rattle.dense_rows.specs.declared.Pivot.{Pivot}
 use Rattle.dense_rows.specs.declared.Pivot.TheVariants.{At, Nowhere}
 
 -- ---- one column

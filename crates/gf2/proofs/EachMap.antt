@@ -1,5 +1,5 @@
 -- What holds of each element of a list that is mapped, joined, or of which one element is written.
-use mathlib.Core.Path.{◌≡◌, ◌∙◌, subst}
+use mathlib.Core.Path.{◌∙◌, subst}
 use mathlib.Core.List.{List, [], ◌∷◌, ◌++◌, map}
 use Prim.Native.Nat.{ℕ}
 use lib.ListN.{get_or, set}

@@ -1,16 +1,14 @@
 -- Steps of an elimination keep the span: one row added to another, rows moved or dropped.
-use mathlib.Core.Path.{◌≡◌, refl, ap, ap₂, ◌∙◌}
+use mathlib.Core.Path.{◌≡◌}
 use mathlib.Core.Logic.{◌≢◌}
-use mathlib.Core.List.{List, [], ◌∷◌}
-use Prim.Native.Nat.{ℕ, zero, suc, ◌<◌, ◌≤◌, zero-le, suc-le-suc}
-use lib.ListN.{get_or, length, set, length-set}
+use mathlib.Core.List.{List}
+use Prim.Native.Nat.{ℕ, ◌<◌}
+use lib.ListN.{get_or, length, set}
 use lib.Bits.{bit_xor}
-use Rattle.gf2.specs.Equation.{Equation, Increasing, Sorted, lists, xor_bool, sym_diff, sum}
+use Rattle.gf2.specs.Equation.{Equation, Increasing, Sorted, sum}
 use Rattle.gf2.proofs.XorLaws.{xor_laws}
-use Rattle.gf2.proofs.Tests.{xor_bool_laws}
 use Rattle.gf2.proofs.VarLists.{sym_diff_twice}
 use Rattle.gf2.proofs.Each.{each_at}
-use Rattle.gf2.proofs.Spans.{span_trans}
 
 -- a row added twice falls away
 pub sum_twice : (r s : Equation) → Increasing r.vars → Increasing s.vars → sum (sum r s) s ≡ r

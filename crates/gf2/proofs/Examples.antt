@@ -1,18 +1,16 @@
 -- The definitions on small systems, by computing.
 use mathlib.Core.Path.{◌≡◌, refl}
-use mathlib.Core.Logic.{◌≢◌, ◌⊎◌, inl, inr}
+use mathlib.Core.Logic.{◌⊎◌, inl, inr}
 use mathlib.Core.List.{List, [], ◌∷◌}
-use mathlib.Core.Bool.{Bool, true, false}
+use mathlib.Core.Bool.{true}
 use Prim.Native.Nat.{ℕ, zero, suc, ◌<◌}
-use native.Mathlib.Nat.{not-suc-le-zero, le_of_suc-le-suc}
 use native.Mathlib.Omega.{arith}
 use lib.ListN.{get_or}
 use lib.Dec.{lit<}
-use lib.Bits.{bit_xor}
-use Rattle.gf2.specs.Equation.{Equation, eqn, Sorted, MeetsAll, eval_vars, lists, sym_diff, sum}
-use Rattle.gf2.specs.Span.{oddly, const_of, Cancels}
+use Rattle.gf2.specs.Equation.{Equation, eqn, Sorted, eval_vars, sym_diff}
+use Rattle.gf2.specs.Span.{const_of, Cancels}
 use Rattle.gf2.specs.Canonical.{Canonical, HasLead}
-use Rattle.gf2.proofs.Spans.{sum_vars, sum_cancels, span_head, span_each}
+use Rattle.gf2.proofs.Spans.{sum_vars, sum_cancels, span_each}
 
 merged : sym_diff (1 ∷ 3 ∷ 4 ∷ []) (0 ∷ 3 ∷ 5 ∷ []) ≡ 0 ∷ 1 ∷ 4 ∷ 5 ∷ []
 unfolding sym_diff

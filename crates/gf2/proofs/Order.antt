@@ -1,10 +1,9 @@
 -- Increasing lists by neighbours and by index, and rising lists as increasing ones.
-use mathlib.Core.Path.{◌≡◌, refl}
 use mathlib.Core.List.{List, [], ◌∷◌, ◌++◌}
 use Prim.Native.Nat.{ℕ, zero, suc, ◌+◌, ◌<◌, ◌≤◌, zero-le, suc-le-suc}
 use native.Mathlib.Nat.{not-suc-le-zero, le_of_suc-le-suc}
 use native.Mathlib.Omega.{arith}
-use lib.ListN.{get_or, length, take, drop}
+use lib.ListN.{get_or, length, drop}
 use Rattle.gf2.specs.Equation.{Equation, Each, Above, Increasing, Rising, Sorted, Below}
 use Rattle.gf2.proofs.Each.{each_map}
 use Rattle.gf2.proofs.VarLists.{above_trans}

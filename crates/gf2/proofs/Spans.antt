@@ -1,9 +1,9 @@
 -- Sums of chosen equations: what is in the span, what a solution of the system has to meet, and what has no solution.
-use mathlib.Core.Path.{◌≡◌, refl, sym, ap, ap₂, ◌∙◌, subst}
+use mathlib.Core.Path.{◌≡◌, refl, sym, ap, ap₂, ◌∙◌}
 use mathlib.Core.Logic.{◌≢◌}
 use mathlib.Core.List.{List, [], ◌∷◌}
 use mathlib.Core.Bool.{Bool, true, false}
-use Prim.Native.Nat.{ℕ, zero, suc, ◌<◌, ◌≤◌, zero-le, suc-le-suc}
+use Prim.Native.Nat.{ℕ, ◌<◌}
 use lib.ListN.{get_or, length}
 use lib.Bits.{bit_xor, xor_zero_r}
 use Rattle.gf2.specs.Equation.{Equation, Each, Increasing, Sorted, eval_vars, Meets, MeetsAll, lists, xor_bool, sym_diff, sum}

@@ -2,13 +2,13 @@
 use mathlib.Core.Path.{◌≡◌, refl, sym, ap, ◌∙◌}
 use mathlib.Core.List.{List, [], ◌∷◌}
 use Prim.Native.Nat.compare
-use Prim.Native.Nat.{ℕ, zero, suc, ◌+◌, ◌*◌, ◌≤◌, ◌<◌, compare, Ordering}
+use Prim.Native.Nat.{ℕ, zero, suc, ◌+◌, ◌≤◌, ◌<◌, compare, Ordering}
 use native.Mathlib.Numerals.{add-one}
 use native.Mathlib.Omega.{arith}
 use lib.ListN.{length, get_or, drop, drop_of_length-le}
 use lib.Seq.{drop-cons}
 use lib.Bits.{bit_xor, xor_zero_r}
-use Rattle.gf2.specs.Equation.{Each, Above, Increasing, Rising, eval_vars, sym_diff}
+use Rattle.gf2.specs.Equation.{Each, Rising, eval_vars, sym_diff}
 use Rattle.gf2.proofs.XorLaws.{xor_assoc, xor_left_comm, xor_twice}
 
 -- ---- what a comparison says

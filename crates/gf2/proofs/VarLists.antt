@@ -1,12 +1,11 @@
 -- Increasing lists of variables: membership, the sum of two, and that membership determines the list.
-use mathlib.Core.Path.{◌≡◌, refl, sym, ap, ap₂, ◌∙◌, subst}
-use mathlib.Core.Logic.{◌≢◌}
+use mathlib.Core.Path.{◌≡◌, refl, sym, ap, ap₂, ◌∙◌}
 use mathlib.Core.List.{List, [], ◌∷◌}
 use mathlib.Core.Bool.{Bool, true, false, true≢false, false≢true, ◌||◌}
-use Prim.Native.Nat.{ℕ, zero, suc, ◌<◌, ◌≤◌}
+use Prim.Native.Nat.{ℕ, ◌<◌}
 use native.Mathlib.Omega.{arith}
 use lib.Dec.{eqb}
-use Rattle.gf2.specs.Equation.{Each, Above, Increasing, lists, xor_bool, sym_diff}
+use Rattle.gf2.specs.Equation.{Above, Increasing, lists, xor_bool, sym_diff}
 use Rattle.gf2.proofs.Tests.{Tri, less, same, more, tri, eqb_same, eqb_true, eqb_ne, xor_bool_laws, xor_bool_comm, xor_bool_twice, xor_bool_left_comm, xor_bool_assoc, xor_bool_false, or_is_xor}
 use Rattle.gf2.proofs.SymDiff as sd
 use Rattle.gf2.proofs.SymDiff.{Merge, no_left, no_right, left, right, merge, merge_each}

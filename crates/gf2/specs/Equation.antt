@@ -1,6 +1,6 @@
 -- Equations over the field of two elements: what a vector of words has to meet, and the sum of two equations.
 use Rattle.std.specs.Prelude.{◌≡◌, List, [], ◌∷◌, Bool, true, false, not, ◌||◌, get_or, eqb}
-use Prim.Native.Nat.{ℕ, zero, suc, ◌≤◌, ◌<◌, compare, Ordering}
+use Prim.Native.Nat.{ℕ, suc, ◌≤◌, ◌<◌, compare, Ordering}
 use Rattle.std.specs.Int.Bits.{bit_xor}
 
 -- P holds of each element of the list

@@ -12,7 +12,7 @@ use Rattle.gf2.proofs.Members.{increasing_distinct, listed_each}
 use Rattle.gf2.proofs.Selecting.{distinct_room}
 use Rattle.gf2.proofs.Each.{each_from, each_from_mem}
 use Rattle.gf2.proofs.Order.{below_rising, rising_both, rising_sorted, rising_belows}
-use Rattle.lazy.proofs.Run.{Live, popping, clearing, Ready, reached}
+use Rattle.lazy.proofs.Run.{Live, popping, clearing, reached}
 
 -- what the areas of a run hold
 module _ (n : ℕ) (sys : List Equation) (lent : Lent n sys) (s : State) (i : Inv n sys s) where

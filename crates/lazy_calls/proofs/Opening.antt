@@ -1,7 +1,7 @@
 -- The first state of a lent system, and the end of its build.
-use mathlib.Core.Path.{◌≡◌, refl, sym, ap, ap₂, ◌∙◌, subst}
-use mathlib.Core.List.{List, [], ◌∷◌, ◌++◌, append-nil}
-use Prim.Native.Nat.{ℕ, zero, suc, ◌+◌, ◌-◌, ◌*◌, ◌≤◌, ◌<◌}
+use mathlib.Core.Path.{◌≡◌, sym, ap, ◌∙◌}
+use mathlib.Core.List.{List, [], ◌++◌, append-nil}
+use Prim.Native.Nat.{ℕ, ◌+◌, ◌-◌, ◌≤◌, ◌<◌}
 use native.Mathlib.Omega.{arith}
 use lib.ListN.{length, drop, drop_of_length-le}
 use Rattle.gf2.specs.Equation.{Equation}
@@ -9,18 +9,17 @@ use Rattle.answers.specs.Sizes.{lazy_numbers, lazy_words}
 use Rattle.answers.specs.declared.Answer.{Answer}
 use Rattle.system.specs.Fits.{Fits}
 use Rattle.system.specs.System.{equations}
-use Rattle.lazy.specs.Lazy.{State, more, after, answer_of, start, enough, whole_run, lazy_elimination}
+use Rattle.lazy.specs.Lazy.{start, enough, whole_run, lazy_elimination}
 use Rattle.lazy.proofs.AtStart.{start_inv, start_variables}
 use Rattle.lazy.proofs.Theorems.{lent}
 use Rattle.lazy.specs.Cancelled.{lazy_cancels}
 use Rattle.lazy_setup.specs.declared.Layout.{Layout}
 use Rattle.lazy_setup.specs.declared.Stand.{Stand}
-use Rattle.lazy_setup.specs.Area.{lists_from, numbers_of, words_of}
-use Rattle.lazy_setup.specs.Layout.{layout_of, stand_of, Sized}
+use Rattle.lazy_setup.specs.Area.{numbers_of, words_of}
+use Rattle.lazy_setup.specs.Layout.{layout_of, stand_of}
 use Rattle.lazy_setup.proofs.Holding.{lists_long}
 use Rattle.lazy_setup.proofs.Setting.{start_sized}
-use Rattle.lazy_pops.specs.Laid.{Laid, listed}
-use Rattle.lazy_units.specs.Units.{Stands, left}
+use Rattle.lazy_units.specs.Units.{left}
 use Rattle.lazy_units.specs.Ending.{UnitAt}
 use Rattle.lazy_units.specs.Running.{Answers, Ran, RanCount}
 use Rattle.lazy_units.proofs.UnitCases.{inv_fit}

@@ -1,5 +1,5 @@
 -- The turns of the loop that adds one equation into others.
-use mathlib.Core.Path.{◌≡◌, refl, sym, ap, ap₂, ◌∙◌, subst}
+use mathlib.Core.Path.{◌≡◌, refl, sym, ap, ◌∙◌, subst}
 use mathlib.Core.Logic.{◌≢◌}
 use mathlib.Core.List.{List, [], ◌∷◌}
 use Prim.Native.Nat.{ℕ, suc, ◌+◌, ◌-◌, ◌*◌, ◌≤◌, ◌<◌}
@@ -11,9 +11,6 @@ use lib.Seq.{drop-cons}
 use Rattle.gf2.specs.Equation.{Equation, Each, Rising, lists, sum}
 use Rattle.gf2.specs.ByNumber.{row_of}
 use Rattle.gf2.specs.NumberLists.{keep}
-use Rattle.gf2.proofs.Members.{each_listed}
-use Rattle.gf2.proofs.Each.{each_at}
-use Rattle.areas.specs.Stretch.{stretch}
 use Rattle.areas.proofs.Stretch.{get_or-stretch}
 use Rattle.lazy.specs.Lazy.{State, listing, others, added_into}
 use Rattle.gf2.specs.Common.{common}
@@ -21,13 +18,11 @@ use Rattle.lazy.specs.Cancelled.{added_cancels}
 use Rattle.gf2.proofs.Tally.{Tally, tally_begin, tally_same, tally_turn, tally_over}
 use Rattle.lazy.proofs.Cancelled.{others_le}
 use Rattle.lazy_setup.specs.declared.Layout.{Layout}
-use Rattle.lazy_pops.specs.Laid.{Laid, listed}
 use Rattle.lazy_pops.specs.Lowering.{but}
 use Rattle.lazy_pops.specs.Writes.{add_to}
-use Rattle.lazy_pops.specs.Adding.{with_rows, add_one, RowsAt, AddAt, AddDone, AddsAt, OthersAt}
-use Rattle.lazy_pops.proofs.Listed.{Bounds, bounds}
+use Rattle.lazy_pops.specs.Adding.{with_rows, add_one, AddAt, AddDone, AddsAt}
 use Rattle.lazy_pops.proofs.Listings.{start_next, start_within}
-use Rattle.lazy_pops.proofs.Places.{Places, places}
+use Rattle.lazy_pops.proofs.Places.{places}
 use Rattle.lazy_pops.proofs.Reading.{from_at, to_at, listing_at}
 use Rattle.lazy_pops.proofs.CanLower.{listing_below}
 use Rattle.lazy_pops.proofs.Stacks.{but_same, but_other}

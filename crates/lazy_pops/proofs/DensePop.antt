@@ -1,27 +1,23 @@
 -- An equation of priority 0 is popped.
-use mathlib.Core.Path.{◌≡◌, refl, sym, ap, ap₂, ◌∙◌, subst}
+use mathlib.Core.Path.{◌≡◌, refl, sym, ap, ◌∙◌}
 use mathlib.Core.Logic.{◌≢◌}
-use mathlib.Core.List.{List, [], ◌∷◌, ◌++◌, map}
-use Prim.Native.Nat.{ℕ, zero, suc, pred, ◌+◌, ◌≤◌, ◌<◌}
+use mathlib.Core.List.{List, [], ◌∷◌}
+use Prim.Native.Nat.{ℕ, zero, suc, pred, ◌+◌, ◌<◌}
 use native.Mathlib.Omega.{arith}
 use lib.ListN.{length, get_or, length-append}
 use Rattle.gf2.specs.Equation.{Equation, lists}
-use Rattle.gf2.specs.ByNumber.{blank, row_of}
+use Rattle.gf2.specs.ByNumber.{row_of}
 use Rattle.gf2.specs.Result.{Result, unsolvable, ok}
 use Rattle.gf2.proofs.Members.{head_listed}
-use Rattle.answers.specs.Sizes.{max_variables}
-use Rattle.lazy.specs.Invariant.{Lent, Inv}
 use Rattle.lazy.specs.Lazy.{State, pass_over, copy, pop_dense}
 use Rattle.lazy_setup.specs.declared.Layout.{Layout}
 use Rattle.lazy_setup.specs.declared.Stand.{Stand}
 use Rattle.lazy_setup.specs.Area.{words_of}
 use Rattle.lazy_setup.specs.Layout.{stand_of}
-use Rattle.lazy_pops.specs.declared.Step.{Step}
-use Rattle.lazy_pops.specs.declared.Step.TheVariants.{More, Solved, Unsolvable}
-use Rattle.lazy_pops.specs.Laid.{Laid}
+use Rattle.lazy_pops.specs.declared.Step.TheVariants.{More, Unsolvable}
 use Rattle.lazy_pops.specs.Writes.{copied, CopyAt, CopyDone}
-use Rattle.lazy_pops.specs.Pops.{Shows, EquationAt, After}
-use Rattle.lazy_pops.proofs.Places.{Places, places}
+use Rattle.lazy_pops.specs.Pops.{EquationAt, After}
+use Rattle.lazy_pops.proofs.Places.{places}
 use Rattle.lazy_pops.proofs.Reading.{read_length}
 use Rattle.lazy_pops.proofs.DenseWriting.{word_is, words_long}
 

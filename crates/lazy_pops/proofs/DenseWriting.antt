@@ -1,14 +1,13 @@
 -- An equation copied to the dense part.
-use mathlib.Core.Path.{◌≡◌, refl, sym, ap, ap₂, ◌∙◌}
-use mathlib.Core.Logic.{inl}
+use mathlib.Core.Path.{◌≡◌, sym, ap, ◌∙◌}
 use mathlib.Core.List.{List, [], ◌∷◌, ◌++◌, append-nil, append_assoc, map, map-append}
 use Prim.Native.Nat.{ℕ, zero, suc, ◌+◌, ◌-◌, ◌*◌, ◌≤◌, ◌<◌}
 use native.Mathlib.Omega.{arith}
-use lib.ListN.{length, get_or, set, replicate, length-set, length-map, length-append, length-replicate, get_or-map, get_or-append}
+use lib.ListN.{length, get_or, set, replicate, length-map, length-append, length-replicate, get_or-map, get_or-append}
 use Rattle.gf2.specs.Equation.{Equation}
 use Rattle.gf2.specs.ByNumber.{blank, row_of}
 use Rattle.answers.specs.Sizes.{max_variables}
-use Rattle.areas.specs.Segments.{joined, offset}
+use Rattle.areas.specs.Segments.{offset}
 use Rattle.areas.specs.Stretch.{stretch, put}
 use Rattle.areas.specs.Rows.{padded, laid, Narrow}
 use Rattle.areas.proofs.Offsets.{row_before, row_begins}
@@ -18,13 +17,11 @@ use Rattle.rows.proofs.Put.{set_after}
 use Rattle.lazy.specs.Lazy.{State}
 use Rattle.lazy_setup.specs.declared.Layout.{Layout}
 use Rattle.lazy_setup.specs.Area.{segments, lengths, rows_of, dense_part, words_of}
-use Rattle.lazy_setup.specs.Layout.{sizes, Sized}
-use Rattle.lazy_pops.specs.Laid.{Laid, listed}
 use Rattle.lazy_pops.specs.Writes.{copied, CopyAt, CopyDone}
 use Rattle.lazy_pops.proofs.Padding.{push_padded, push_many}
-use Rattle.lazy_pops.proofs.Places.{Places, places, segmented}
+use Rattle.lazy_pops.proofs.Places.{places, segmented}
 use Rattle.lazy_pops.proofs.Reading.{size, dense_place, row_at}
-use Rattle.lazy_pops.proofs.Segmented.{Segmented, write_cell, write_part}
+use Rattle.lazy_pops.proofs.Segmented.{write_cell, write_part}
 use Rattle.lazy_pops.proofs.Writing.{relaid}
 
 -- one row more, its numbers written over zeros

@@ -3,15 +3,14 @@ use mathlib.Core.Path.{◌≡◌, refl, sym, ap, ap₂, ◌∙◌, subst}
 use mathlib.Core.Logic.{◌≢◌}
 use mathlib.Core.List.{List, [], ◌∷◌}
 use mathlib.Core.Bool.{true, false≢true}
-use Prim.Native.Nat.{ℕ, zero, suc, pred, ◌+◌, ◌-◌, ◌*◌, ◌≤◌, ◌<◌}
+use Prim.Native.Nat.{ℕ, zero, suc, ◌+◌, ◌-◌, ◌≤◌, ◌<◌}
 use native.Mathlib.Numerals.{sub-one}
 use native.Mathlib.Omega.{arith}
 use lib.ListN.{length, get_or, set}
 use Rattle.gf2.specs.Equation.{Equation, lists}
-use Rattle.gf2.specs.ByNumber.{row_of}
-use Rattle.gf2.specs.Result.{Result, unsolvable, ok}
+use Rattle.gf2.specs.Result.{Result, ok}
 use Rattle.gf2.proofs.Members.{head_listed}
-use Rattle.lazy.specs.Invariant.{Lent, Inv, StackInv}
+use Rattle.lazy.specs.Invariant.{StackInv}
 use Rattle.lazy.specs.Cancelled.{added_cancels, pop_cancels}
 use Rattle.lazy.specs.Lazy.{State, others, skip, activate, pass_over, solve_for, pop_dense, pop_variable, pop}
 use Rattle.lazy.specs.Safe.{pivot_of}
@@ -21,10 +20,10 @@ use Rattle.lazy_setup.specs.declared.Stand.{Stand}
 use Rattle.lazy_setup.specs.Area.{words_of}
 use Rattle.lazy_setup.specs.Layout.{stand_of}
 use Rattle.lazy_pops.specs.declared.Step.{Step}
-use Rattle.lazy_pops.specs.declared.Step.TheVariants.{More, Solved, Unsolvable}
+use Rattle.lazy_pops.specs.declared.Step.TheVariants.{More}
 use Rattle.lazy_pops.specs.Laid.{Laid}
-use Rattle.lazy_pops.specs.Pops.{Shows, Popping, VariableAt, EquationAt, SolveDone, PopAt, After}
-use Rattle.lazy_pops.proofs.Places.{Places, places}
+use Rattle.lazy_pops.specs.Pops.{Shows, VariableAt, EquationAt, SolveDone, PopAt, After}
+use Rattle.lazy_pops.proofs.Places.{places}
 use Rattle.lazy_pops.proofs.PopCases.{equation_dense, equation_solve, pop_first, pop_then, count_none, count_dense, count_solve}
 use Rattle.lazy_pops.proofs.Reading.{read_equation, read_priority}
 use Rattle.lazy_pops.proofs.Writing.{pop_equation_lem}

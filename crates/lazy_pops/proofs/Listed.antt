@@ -1,7 +1,7 @@
 -- The equations of one variable lowered.
-use mathlib.Core.Path.{◌≡◌, refl, sym, ap, ap₂, ◌∙◌}
-use mathlib.Core.List.{List, [], ◌∷◌, reverse, reverse-reverse}
-use Prim.Native.Nat.{ℕ, suc, ◌+◌, ◌-◌, ◌*◌, ◌≤◌, ◌<◌}
+use mathlib.Core.Path.{◌≡◌, ap, ◌∙◌}
+use mathlib.Core.List.{List, reverse, reverse-reverse}
+use Prim.Native.Nat.{ℕ, suc, ◌+◌, ◌-◌, ◌≤◌, ◌<◌}
 use native.Mathlib.Nat.{zero-add}
 use native.Mathlib.Omega.{arith}
 use lib.ListN.{length, get_or}
@@ -9,10 +9,10 @@ use Rattle.gf2.specs.Equation.{Equation}
 use Rattle.areas.specs.Stretch.{stretch, put}
 use Rattle.lazy.specs.Lazy.{State, listing, lowered, pushed}
 use Rattle.lazy_setup.specs.declared.Layout.{Layout}
-use Rattle.lazy_pops.specs.Laid.{Laid, listed}
-use Rattle.lazy_pops.specs.Lowering.{but, Lowers, LowerFits, now_pushed, lowered_in}
-use Rattle.lazy_pops.specs.Writes.{lower, LowerAt, LowerDone}
-use Rattle.lazy_pops.proofs.Places.{Places, places}
+use Rattle.lazy_pops.specs.Laid.{Laid}
+use Rattle.lazy_pops.specs.Lowering.{but, LowerFits, now_pushed, lowered_in}
+use Rattle.lazy_pops.specs.Writes.{LowerAt, LowerDone}
+use Rattle.lazy_pops.proofs.Places.{places}
 use Rattle.lazy_pops.proofs.Listings.{start_next, start_within}
 use Rattle.lazy_pops.proofs.Reading.{from_at, to_at, listing_at, priorities_at, stack_at}
 use Rattle.lazy_pops.proofs.Writing.{write_lowered}

@@ -1,6 +1,6 @@
 -- The equations of each variable, one list after the other, and where each begins.
-use mathlib.Core.Path.{◌≡◌, refl, sym, ap, ◌∙◌}
-use mathlib.Core.List.{List, [], ◌∷◌, ◌++◌}
+use mathlib.Core.Path.{◌≡◌, refl}
+use mathlib.Core.List.{List, []}
 use Prim.Native.Nat.{ℕ, zero, suc, ◌+◌, ◌-◌, ◌≤◌, ◌<◌}
 use native.Mathlib.Nat.{add-zero, sub_self, le_of_suc-le-suc, not-suc-le-zero}
 use native.Mathlib.Omega.{arith}

@@ -1,17 +1,14 @@
 -- The turns of the loop that lowers priorities.
 use mathlib.Core.Path.{◌≡◌, refl, sym, ap, ◌∙◌, subst}
-use mathlib.Core.Logic.{◌≢◌, ⊎_elim}
-use mathlib.Core.List.{List, [], ◌∷◌, ◌++◌, reverse, reverse-reverse, reverse-cons}
-use mathlib.Core.Bool.{Bool, true, false, not, cond}
-use Prim.Native.Nat.{ℕ, zero, suc, pred, ◌+◌, ◌-◌, ◌≤◌, ◌<◌}
-use native.Mathlib.Nat.{sub-zero}
+use mathlib.Core.Logic.{◌≢◌}
+use mathlib.Core.List.{List, [], ◌∷◌, reverse, reverse-reverse, reverse-cons}
+use Prim.Native.Nat.{ℕ, pred, ◌+◌, ◌-◌, ◌≤◌, ◌<◌}
 use native.Mathlib.Numerals.{add-one, sub-one}
 use native.Mathlib.Decide.{ℕ_discrete}
 use native.Mathlib.Omega.{arith}
-use lib.ListN.{length, get_or, set, drop, length-set, length-append, length-reverse, drop_of_length-le}
+use lib.ListN.{length, get_or, set, drop, length-set, length-reverse, drop_of_length-le}
 use lib.Seq.{drop-cons}
-use lib.Dec.{eqb}
-use Rattle.gf2.proofs.Tests.{eqb_same, eqb_ne}
+use Rattle.gf2.proofs.Tests.{eqb_ne}
 use Rattle.areas.specs.Stretch.{stretch, put}
 use Rattle.areas.proofs.Behind.{put_behind}
 use Rattle.areas.proofs.Stretch.{length-stretch, length-put, put-stretch, put_comm, put-put_inside, set_is_put, get_or-stretch, get_or-put, get_or-put_before}

@@ -1,15 +1,15 @@
 -- Where the segments of a state stand, for `omega`.
-use mathlib.Core.Path.{◌≡◌, refl, sym, ap, ◌∙◌}
-use mathlib.Core.List.{List, []}
-use Prim.Native.Nat.{ℕ, ◌+◌, ◌*◌, ◌<◌, ◌≤◌}
+use mathlib.Core.Path.{◌≡◌, refl, ap}
+use mathlib.Core.List.{List}
+use Prim.Native.Nat.{ℕ, ◌+◌, ◌*◌}
 use native.Mathlib.Omega.{arith}
 use lib.ListN.{length}
 use Rattle.gf2.specs.Equation.{Equation}
 use Rattle.areas.specs.Segments.{joined}
 use Rattle.lazy.specs.Lazy.{State}
 use Rattle.lazy_setup.specs.declared.Layout.{Layout}
-use Rattle.lazy_setup.specs.Area.{lists_from, segments, numbers_of}
-use Rattle.lazy_setup.specs.Layout.{layout_of, Shaped, Sized}
+use Rattle.lazy_setup.specs.Area.{segments, numbers_of}
+use Rattle.lazy_setup.specs.Layout.{layout_of}
 use Rattle.lazy_setup.proofs.Offsets.{shaped, length_shaped}
 use Rattle.lazy_pops.specs.Laid.{Laid, listed}
 use Rattle.lazy_pops.proofs.Segmented.{Segmented}

@@ -7,7 +7,7 @@ use lib.ListN.{get_or}
 use Rattle.gf2.specs.Equation.{Equation}
 use Rattle.gf2.specs.ByNumber.{row_of}
 use Rattle.gf2.specs.NumberLists.{first_of}
-use Rattle.gf2.specs.Result.{Result, unsolvable, ok}
+use Rattle.gf2.specs.Result.{Result, ok}
 use Rattle.lazy.specs.Cancelled.{added_cancels, pop_cancels}
 use Rattle.lazy.specs.Lazy.{State, others, is_idle, pass_over, solve_for, pop_dense, pop_equation, pop_variable, pop}
 

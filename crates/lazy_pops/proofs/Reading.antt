@@ -1,10 +1,9 @@
 -- What stands in the numbers that show a state.
-use mathlib.Core.Path.{◌≡◌, refl, sym, ap, ap₂, ◌∙◌}
-use mathlib.Core.List.{List, [], ◌∷◌, ◌++◌, map, reverse, reverse-cons}
-use mathlib.Core.Bool.{Bool, true, false}
-use Prim.Native.Nat.{ℕ, zero, suc, ◌+◌, ◌-◌, ◌*◌, ◌≤◌, ◌<◌}
-use native.Mathlib.Nat.{add-zero, zero-add, sub-zero, add_assoc}
-use native.Mathlib.Numerals.{add-one}
+use mathlib.Core.Path.{◌≡◌, sym, ap, ◌∙◌}
+use mathlib.Core.List.{List, [], ◌∷◌, map, reverse, reverse-cons}
+use mathlib.Core.Bool.{false}
+use Prim.Native.Nat.{ℕ, suc, ◌+◌, ◌-◌, ◌*◌, ◌≤◌, ◌<◌}
+use native.Mathlib.Nat.{add-zero, zero-add, sub-zero}
 use native.Mathlib.Omega.{arith}
 use lib.ListN.{length, get_or, length-map, length-reverse, get_or-map}
 use lib.Seq.{get_or_at}
@@ -12,16 +11,16 @@ use Rattle.gf2.specs.Equation.{Equation}
 use Rattle.gf2.specs.ByNumber.{blank, row_of}
 use Rattle.areas.specs.Segments.{joined, offset}
 use Rattle.areas.specs.Stretch.{stretch}
-use Rattle.areas.specs.Rows.{padded, laid}
+use Rattle.areas.specs.Rows.{padded}
 use Rattle.areas.proofs.Stretch.{stretch_whole}
-use Rattle.areas.proofs.Rows.{length-padded, stretch-padded, get_or-padded, stretch_row_all}
-use Rattle.lazy.specs.Lazy.{State, Solved, listing}
+use Rattle.areas.proofs.Rows.{stretch-padded, get_or-padded, stretch_row_all}
+use Rattle.lazy.specs.Lazy.{State, listing}
 use Rattle.lazy_setup.specs.declared.Layout.{Layout}
-use Rattle.lazy_setup.specs.Area.{mark, lists_from, starts_from, segments, numbers_of}
-use Rattle.lazy_setup.specs.Layout.{sizes, layout_of, Sized}
+use Rattle.lazy_setup.specs.Area.{mark, segments, numbers_of}
+use Rattle.lazy_setup.specs.Layout.{sizes}
 use Rattle.lazy_setup.proofs.Offsets.{long, at_lengths, at_lists, at_starts, at_weight, at_variables, at_idle, at_priority, at_equations, at_solved, at_pivots, at_dense}
 use Rattle.lazy_pops.specs.Laid.{Laid, listed}
-use Rattle.lazy_pops.proofs.Segmented.{Segmented, read_cell, read_part}
+use Rattle.lazy_pops.proofs.Segmented.{read_cell, read_part}
 use Rattle.lazy_pops.proofs.Places.{segmented}
 use Rattle.lazy_pops.proofs.Listings.{start_at, start_next, start_within, list_at}
 

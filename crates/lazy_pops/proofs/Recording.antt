@@ -1,18 +1,17 @@
 -- What is recorded of a solved equation.
-use mathlib.Core.Path.{◌≡◌, refl, sym, ap, ◌∙◌}
+use mathlib.Core.Path.{refl, ap}
 use mathlib.Core.List.{List}
-use Prim.Native.Nat.{ℕ, suc, ◌+◌, ◌-◌, ◌*◌, ◌≤◌, ◌<◌}
-use native.Mathlib.Nat.{zero-add}
+use Prim.Native.Nat.{ℕ, ◌+◌, ◌-◌, ◌*◌, ◌≤◌, ◌<◌}
 use native.Mathlib.Omega.{arith}
-use lib.ListN.{length, get_or, set, length-set}
+use lib.ListN.{length, get_or, set}
 use Rattle.gf2.specs.Equation.{Equation}
-use Rattle.lazy.specs.Lazy.{State, listing}
+use Rattle.lazy.specs.Lazy.{State}
 use Rattle.lazy_setup.specs.declared.Layout.{Layout}
 use Rattle.lazy_pops.specs.Laid.{Laid}
 use Rattle.lazy_pops.specs.Writes.{weightless, recorded, SolvedAt}
-use Rattle.lazy_pops.specs.Adding.{RowsAt, AddsAt, OthersAt}
+use Rattle.lazy_pops.specs.Adding.{AddsAt, OthersAt}
 use Rattle.lazy_pops.proofs.Listed.{Bounds, bounds}
-use Rattle.lazy_pops.proofs.Places.{Places, places}
+use Rattle.lazy_pops.proofs.Places.{places}
 use Rattle.lazy_pops.proofs.Reading.{from_at, to_at}
 use Rattle.lazy_pops.proofs.Writing.{write_solved, write_weight}
 

@@ -1,13 +1,13 @@
 -- One equation added into another.
 use mathlib.Core.Path.{◌≡◌, refl, sym, ap, ap₂, ◌∙◌, subst}
-use mathlib.Core.List.{List, [], ◌∷◌, ◌++◌, append-nil, map}
-use Prim.Native.Nat.{ℕ, zero, suc, ◌+◌, ◌-◌, ◌*◌, ◌/◌, ◌≤◌, ◌<◌}
-use native.Mathlib.Nat.{add-zero, zero-add}
+use mathlib.Core.List.{List, [], ◌++◌, append-nil, map}
+use Prim.Native.Nat.{ℕ, ◌+◌, ◌-◌, ◌*◌, ◌/◌, ◌≤◌, ◌<◌}
+use native.Mathlib.Nat.{zero-add}
 use native.Mathlib.Omega.{arith}
 use lib.ListN.{length, get_or, set, replicate, length-set, length-map, length-append, length-replicate, get_or-map, get_or-append}
 use lib.Seq.{set-append_left}
 use lib.Bits.{bit_xor}
-use Rattle.gf2.specs.Equation.{Equation, Each, Increasing, Rising, sym_diff, sum}
+use Rattle.gf2.specs.Equation.{Equation, Increasing, Rising, sym_diff, sum}
 use Rattle.gf2.specs.ByNumber.{blank, row_of}
 use Rattle.gf2.proofs.Each.{each_at, each_set}
 use Rattle.gf2.proofs.SymDiff.{rising_sym_diff, rising_length}
@@ -27,10 +27,9 @@ use Rattle.rows.proofs.Put.{map-set}
 use Rattle.lazy.specs.Lazy.{State}
 use Rattle.lazy_setup.specs.declared.Layout.{Layout}
 use Rattle.lazy_setup.specs.Area.{segments, numbers_of, lengths, rows_of, words_of}
-use Rattle.lazy_setup.specs.Layout.{sizes, Sized}
 use Rattle.lazy_pops.specs.Laid.{Laid, listed}
-use Rattle.lazy_pops.specs.Adding.{with_rows, add_one, RowsAt, AddAt, AddDone}
-use Rattle.lazy_pops.proofs.Places.{Places, places, segmented}
+use Rattle.lazy_pops.specs.Adding.{with_rows, add_one, AddAt, AddDone}
+use Rattle.lazy_pops.proofs.Places.{places, segmented}
 use Rattle.lazy_pops.proofs.Reading.{size, lengths_place, dense_place, row_at, read_length}
 use Rattle.lazy_pops.proofs.Segmented.{Segmented, read_part, write_cell, write_part}
 use Rattle.lazy_pops.proofs.Writing.{relaid}

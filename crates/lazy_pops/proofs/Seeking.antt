@@ -1,15 +1,15 @@
 -- The search for the first idle variable.
-use mathlib.Core.Path.{◌≡◌, refl, sym, ap, ◌∙◌, subst}
+use mathlib.Core.Path.{◌≡◌, refl, sym, ap, ◌∙◌}
 use mathlib.Core.Logic.{◌≢◌}
 use mathlib.Core.List.{List, [], ◌∷◌}
 use mathlib.Core.Bool.{Bool, true, false, not}
-use Prim.Native.Nat.{ℕ, suc, ◌+◌, ◌≤◌, ◌<◌}
+use Prim.Native.Nat.{ℕ, ◌+◌, ◌≤◌, ◌<◌}
 use native.Mathlib.Numerals.{add-one}
 use native.Mathlib.Omega.{arith}
 use lib.ListN.{length, get_or, drop, drop_of_length-le}
 use lib.Seq.{drop-cons}
 use lib.Dec.{eqb}
-use Rattle.gf2.specs.Equation.{Each, lists}
+use Rattle.gf2.specs.Equation.{lists}
 use Rattle.gf2.specs.NumberLists.{first_of}
 use Rattle.gf2.proofs.Each.{each_at}
 use Rattle.gf2.proofs.Members.{head_listed, tail_listed}

@@ -1,25 +1,23 @@
 -- An equation of priority 1 is popped.
 use mathlib.Core.Path.{◌≡◌, refl, sym, ap, ap₂, ◌∙◌, subst}
-use mathlib.Core.List.{List, [], ◌∷◌, ◌++◌, map}
+use mathlib.Core.List.{List, [], ◌∷◌}
 use mathlib.Core.Bool.{Bool, true, false, not}
-use Prim.Native.Nat.{ℕ, zero, suc, pred, ◌+◌, ◌*◌, ◌≤◌, ◌<◌}
+use Prim.Native.Nat.{ℕ, pred, ◌+◌, ◌*◌, ◌≤◌, ◌<◌}
 use native.Mathlib.Omega.{arith}
 use lib.ListN.{length, get_or, length-append}
 use lib.Dec.{eqb}
-use Rattle.gf2.specs.Equation.{Equation, Each, Rising, lists}
-use Rattle.gf2.specs.ByNumber.{blank, row_of, lists_at}
-use Rattle.gf2.specs.NumberLists.{first_of}
-use Rattle.gf2.specs.Result.{Result, unsolvable, ok}
+use Rattle.gf2.specs.Equation.{Equation, Each, Rising}
+use Rattle.gf2.specs.ByNumber.{blank, row_of}
 use Rattle.gf2.proofs.Each.{each_from, each_map}
 use Rattle.gf2.proofs.Members.{head_listed, each_listed}
 use Rattle.gf2.proofs.Order.{rising_below}
 use Rattle.areas.specs.Stretch.{stretch}
 use Rattle.areas.proofs.Offsets.{row_before}
-use Rattle.lazy.specs.Invariant.{Lent, Inv, StackInv, free, is_solved}
-use Rattle.lazy.specs.Lazy.{State, Solved, listing, others, is_idle, lowered, pushed, added_into, pass_over, solve_for, pop, pop_equation}
+use Rattle.lazy.specs.Invariant.{StackInv, free}
+use Rattle.lazy.specs.Lazy.{State, others, is_idle, pass_over, solve_for}
 use Rattle.lazy.specs.Safe.{pivot_of}
 use Rattle.lazy.proofs.Keeps.{pivot_there, pivot_free}
-use Rattle.lazy.proofs.Pops.{Popped, Clash, pop_keeps}
+use Rattle.lazy.proofs.Pops.{Popped, pop_keeps}
 use Rattle.lazy.proofs.Room.{equations_room, row_rising, row_room}
 use Rattle.lazy.specs.Cancelled.{added_cancels}
 use Rattle.lazy_setup.specs.declared.Layout.{Layout}
@@ -29,12 +27,11 @@ use Rattle.lazy_setup.specs.Layout.{stand_of}
 use Rattle.lazy_pops.specs.Adding.{AddDone, OthersAt}
 use Rattle.lazy_pops.specs.Idle.{marked, first_marked, RowFits}
 use Rattle.lazy_pops.specs.Laid.{Laid}
-use Rattle.lazy_pops.specs.Lowering.{but}
-use Rattle.lazy_pops.specs.Pops.{Shows, EquationAt, SolveDone}
+use Rattle.lazy_pops.specs.Pops.{EquationAt, SolveDone}
 use Rattle.lazy_pops.specs.Writes.{lower, weightless, recorded, add_to, SolvedAt, LowerAt, LowerDone}
 use Rattle.lazy_pops.proofs.CanLower.{others_lower}
 use Rattle.lazy_pops.proofs.DensePop.{e_low, left_over, size_is}
-use Rattle.lazy_pops.proofs.Places.{Places, places}
+use Rattle.lazy_pops.proofs.Places.{places}
 use Rattle.lazy_pops.proofs.PopCases.{equation_solve, pop_first}
 use Rattle.lazy_pops.proofs.Reading.{read_idle, row_at}
 use Rattle.lazy_pops.proofs.Seeking.{first_same}

@@ -1,15 +1,15 @@
 -- A pop from the variable list.
 use mathlib.Core.Path.{◌≡◌, refl, sym, ap, ap₂, ◌∙◌, subst}
 use mathlib.Core.Logic.{◌≢◌}
-use mathlib.Core.List.{List, [], ◌∷◌}
-use mathlib.Core.Bool.{Bool, true, false}
-use Prim.Native.Nat.{ℕ, zero, suc, ◌+◌, ◌-◌, ◌*◌, ◌≤◌, ◌<◌}
+use mathlib.Core.List.{List}
+use mathlib.Core.Bool.{true}
+use Prim.Native.Nat.{ℕ, zero, suc, ◌+◌, ◌-◌, ◌≤◌, ◌<◌}
 use native.Mathlib.Omega.{arith}
-use lib.ListN.{length, get_or, set, length-set}
+use lib.ListN.{length, get_or, set}
 use Rattle.gf2.specs.Equation.{Equation, lists}
 use Rattle.gf2.proofs.Members.{head_listed}
-use Rattle.lazy.specs.Invariant.{Lent, Inv, free}
-use Rattle.lazy.specs.Lazy.{State, listing, lowered, pushed, skip, activate, pop_variable}
+use Rattle.lazy.specs.Invariant.{free}
+use Rattle.lazy.specs.Lazy.{State, listing, pushed, skip, activate, pop_variable}
 use Rattle.lazy.proofs.Pivots.{is_free}
 use Rattle.lazy.proofs.Pops.{Popped, activate_keeps}
 use Rattle.lazy.proofs.Room.{equations_room}
@@ -17,10 +17,10 @@ use Rattle.lazy_setup.specs.declared.Layout.{Layout}
 use Rattle.lazy_setup.specs.declared.Stand.{Stand}
 use Rattle.lazy_setup.specs.Layout.{stand_of}
 use Rattle.lazy_pops.specs.Laid.{Laid}
-use Rattle.lazy_pops.specs.Lowering.{but, Lowers}
-use Rattle.lazy_pops.specs.Writes.{activated, lower, LowerAt, LowerReady, LowerDone}
-use Rattle.lazy_pops.specs.Pops.{Shows, Popping, VariableAt}
-use Rattle.lazy_pops.proofs.Places.{Places, places}
+use Rattle.lazy_pops.specs.Lowering.{but}
+use Rattle.lazy_pops.specs.Writes.{activated, lower, LowerAt, LowerDone}
+use Rattle.lazy_pops.specs.Pops.{Shows, VariableAt}
+use Rattle.lazy_pops.proofs.Places.{places}
 use Rattle.lazy_pops.proofs.Reading.{read_variable, read_weight}
 use Rattle.lazy_pops.proofs.Writing.{pop_variable_lem, write_active}
 use Rattle.lazy_pops.proofs.CanLower.{but_past, listing_lowers}

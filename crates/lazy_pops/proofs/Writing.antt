@@ -1,8 +1,8 @@
 -- What is written to the numbers that show a state, part by part: they show the next state.
 use mathlib.Core.Path.{◌≡◌, refl, sym, ap, ap₂, ◌∙◌}
 use mathlib.Core.List.{List, [], ◌∷◌, ◌++◌, map, map-append, reverse}
-use mathlib.Core.Bool.{Bool, true, false}
-use Prim.Native.Nat.{ℕ, zero, suc, pred, ◌+◌, ◌-◌, ◌*◌, ◌≤◌, ◌<◌}
+use mathlib.Core.Bool.{false}
+use Prim.Native.Nat.{ℕ, zero, ◌+◌, ◌-◌, ◌≤◌, ◌<◌}
 use native.Mathlib.Nat.{add-zero}
 use native.Mathlib.Omega.{arith}
 use lib.ListN.{length, get_or, set, length-set, length-map, length-reverse, length-append}
@@ -13,11 +13,11 @@ use Rattle.areas.specs.Rows.{padded}
 use Rattle.areas.proofs.Stretch.{put_all}
 use Rattle.areas.proofs.Segments.{offset_set}
 use Rattle.rows.proofs.Put.{map-set}
-use Rattle.lazy.specs.Lazy.{State, Solved, listing, lowered, pushed, skip, pass_over}
+use Rattle.lazy.specs.Lazy.{State, Solved, lowered, pushed, skip, pass_over}
 use Rattle.lazy.proofs.Priorities.{length_lowered}
 use Rattle.lazy_setup.specs.declared.Layout.{Layout}
 use Rattle.lazy_setup.specs.Area.{mark, segments, numbers_of}
-use Rattle.lazy_setup.specs.Layout.{sizes, layout_of, Sized}
+use Rattle.lazy_setup.specs.Layout.{Sized}
 use Rattle.lazy_pops.specs.Laid.{Laid, listed}
 use Rattle.lazy_pops.specs.Writes.{activated, lower, weightless, recorded}
 use Rattle.lazy_pops.proofs.Segmented.{Segmented, write_cell, write_part}

@@ -1,5 +1,5 @@
 -- The first idle variable of a row.
-use Rattle.std.specs.Prelude.{◌≡◌, List, Bool, not, ℕ, ◌+◌, ◌≤◌, ◌<◌, length, get_or, eqb}
+use Rattle.std.specs.Prelude.{List, Bool, not, ℕ, ◌+◌, ◌≤◌, ◌<◌, length, get_or, eqb}
 use Rattle.gf2.specs.Equation.{Each}
 use Rattle.gf2.specs.NumberLists.{first_of}
 use Rattle.areas.specs.Stretch.{stretch}

@@ -1,5 +1,5 @@
 -- To lower priorities in one area: a list of equations, the priorities and the equation list stand in it, not touching.
-use Rattle.std.specs.Prelude.{◌≡◌, List, [], ◌∷◌, reverse, Bool, not, cond, ℕ, pred, ◌+◌, ◌-◌, ◌≤◌, ◌<◌, length, get_or, set, eqb}
+use Rattle.std.specs.Prelude.{◌≡◌, List, [], ◌∷◌, reverse, not, cond, ℕ, pred, ◌+◌, ◌-◌, ◌≤◌, ◌<◌, length, get_or, set, eqb}
 use Rattle.areas.specs.Stretch.{stretch, put}
 use Rattle.gf2.specs.NumberLists.{keep}
 use Rattle.lazy.specs.Lazy.{lowered, pushed}

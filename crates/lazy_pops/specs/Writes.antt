@@ -1,8 +1,8 @@
 -- What a unit writes, one part of the state at a time.
-use Rattle.std.specs.Prelude.{◌≡◌, List, [], ◌∷◌, ◌++◌, Bool, true, false, ℕ, ◌≤◌, ◌<◌, length, set}
+use Rattle.std.specs.Prelude.{◌≡◌, List, [], ◌∷◌, ◌++◌, false, ℕ, ◌≤◌, ◌<◌, length, set}
 use Rattle.gf2.specs.Equation.{Equation}
 use Rattle.gf2.specs.ByNumber.{row_of}
-use Rattle.lazy.specs.Lazy.{State, Solved, listing, lowered, pushed, added_into}
+use Rattle.lazy.specs.Lazy.{State, listing, lowered, pushed, added_into}
 use Rattle.answers.specs.Sizes.{max_variables}
 use Rattle.lazy_setup.specs.declared.Layout.{Layout}
 use Rattle.lazy_setup.specs.Area.{words_of}

@@ -1,11 +1,10 @@
 -- One outer row of the dense part.
-use mathlib.Core.Path.{◌≡◌, refl, sym, ap, ap₂, ◌∙◌, subst}
-use mathlib.Core.List.{List, [], ◌∷◌, ◌++◌, append-nil, map}
-use Prim.Native.Nat.{ℕ, zero, suc, ◌+◌, ◌-◌, ◌*◌, ◌≤◌, ◌<◌}
+use mathlib.Core.Path.{◌≡◌, sym, ap, ap₂, ◌∙◌}
+use mathlib.Core.List.{List, [], ◌++◌, append-nil, map}
+use Prim.Native.Nat.{ℕ, suc, ◌+◌, ◌-◌, ◌*◌, ◌≤◌, ◌<◌}
 use native.Mathlib.Numerals.{add-one}
 use native.Mathlib.Omega.{arith}
 use lib.ListN.{length, take, drop, replicate, length-append, length-map, length-replicate, length-drop, take-append-drop}
-use lib.Seq.{take_at}
 use Rattle.gf2.specs.Equation.{Equation, Each, Rising}
 use Rattle.gf2.specs.ByNumber.{blank}
 use Rattle.gf2.specs.Result.{Result, unsolvable, ok}
@@ -17,22 +16,19 @@ use Rattle.rows.proofs.Holding.{held, carried, rows_are, drawn_padded}
 use Rattle.rows.proofs.Padding.{padded_agree}
 use Rattle.sparse_rules.specs.Eliminate.{outer_row}
 use Rattle.sparse_rules.specs.Cancelled.{outer_row_cancels}
-use Rattle.sparse_rows.specs.Reduce.{ReducedBy, refused, reduced, Reduces}
+use Rattle.sparse_rows.specs.Reduce.{ReducedBy, refused, reduced}
 use Rattle.sparse_rows.specs.declared.echelon.Reduction.{Reduction}
 use Rattle.sparse_rows.specs.declared.echelon.Reduction.TheVariants as reduction
-use Rattle.lazy.specs.Invariant.{Lent, Inv}
 use Rattle.lazy.specs.Lazy.{State, dense_row}
 use Rattle.lazy_setup.specs.declared.Layout.{Layout}
 use Rattle.lazy_setup.specs.declared.Stand.{Stand}
 use Rattle.lazy_setup.specs.Area.{dense_part, words_of}
 use Rattle.lazy_setup.specs.Layout.{stand_of}
-use Rattle.lazy_pops.specs.declared.Step.{Step}
 use Rattle.lazy_pops.specs.declared.Step.TheVariants as step
 use Rattle.lazy_pops.specs.Laid.{Laid}
-use Rattle.lazy_pops.specs.Pops.{Shows}
-use Rattle.lazy_pops.proofs.Places.{Places, places}
+use Rattle.lazy_pops.proofs.Places.{places}
 use Rattle.lazy_units.specs.Clearing.{ClearFits, Cleared}
-use Rattle.lazy_units.specs.Units.{Fit, Stands, left, Going, ClearAt}
+use Rattle.lazy_units.specs.Units.{Stands, Going, ClearAt}
 use Rattle.lazy_units.proofs.DensePart.{filled, rising_narrows, part_is_picture, words_are_constants, part_long, dense_drawn, in_use, not_in_use}
 use Rattle.lazy_units.proofs.Tidying.{laid_tidy}
 use Rattle.lazy_units.proofs.Ends.{with_dense, numbers_end, write_end, words_end, words_front, write_words}

@@ -1,20 +1,19 @@
 -- The dense part is a picture of its rows, and of empty ones up to m.
-use mathlib.Core.Path.{◌≡◌, refl, sym, ap, ap₂, ◌∙◌, subst}
-use mathlib.Core.List.{List, [], ◌∷◌, ◌++◌, append-nil, append_assoc, map, map-append}
-use Prim.Native.Nat.{ℕ, zero, suc, ◌+◌, ◌-◌, ◌*◌, ◌≤◌, ◌<◌}
-use native.Mathlib.Nat.{add-mul, add-zero}
+use mathlib.Core.Path.{◌≡◌, refl, sym, ap, ◌∙◌}
+use mathlib.Core.List.{List, [], ◌∷◌, ◌++◌, append-nil, map, map-append}
+use Prim.Native.Nat.{ℕ, zero, suc, ◌+◌, ◌-◌, ◌*◌, ◌≤◌}
+use native.Mathlib.Nat.{add-mul}
 use native.Mathlib.Omega.{arith}
-use lib.ListN.{length, get_or, set, take, drop, replicate, length-map, length-append, length-replicate}
-use lib.Seq.{take_at, drop_at, take_all}
+use lib.ListN.{length, take, drop, replicate, length-map, length-append, length-replicate}
+use lib.Seq.{take_at, drop_at}
 use Rattle.gf2.specs.Equation.{Equation, Each, Rising}
 use Rattle.gf2.specs.ByNumber.{blank}
-use Rattle.gf2.proofs.Each.{each_append, each_at}
+use Rattle.gf2.proofs.Each.{each_append}
 use Rattle.areas.proofs.Offsets.{row_begins}
 use Rattle.areas.specs.Rows.{padded, laid, Narrow}
-use Rattle.areas.specs.Stretch.{stretch, put}
 use Rattle.areas.proofs.Rows.{laid_append, laid_empty, length_laid, length-padded}
-use Rattle.rows.specs.Picture.{picture, Drawn, Held, vars_of, length_of, constant_of, rows_of}
-use Rattle.rows.proofs.Holding.{rising_narrow, held, rows_are, carried}
+use Rattle.rows.specs.Picture.{picture, Drawn, vars_of, length_of, constant_of}
+use Rattle.rows.proofs.Holding.{rising_narrow}
 use Rattle.lazy_setup.specs.Area.{dense_part, lengths}
 
 -- empty equations up to m

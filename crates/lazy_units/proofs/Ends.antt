@@ -1,22 +1,20 @@
 -- The dense part at the end of the areas.
-use mathlib.Core.Path.{◌≡◌, refl, sym, ap, ap₂, ◌∙◌, subst}
-use mathlib.Core.List.{List, [], ◌∷◌, ◌++◌, append-nil, map}
-use Prim.Native.Nat.{ℕ, zero, suc, ◌+◌, ◌-◌, ◌*◌, ◌≤◌, ◌<◌}
+use mathlib.Core.Path.{◌≡◌, sym, ap, ap₂, ◌∙◌}
+use mathlib.Core.List.{List, [], ◌++◌, append-nil, map}
+use Prim.Native.Nat.{ℕ, ◌+◌, ◌-◌, ◌*◌, ◌≤◌}
 use native.Mathlib.Nat.{add-zero}
 use native.Mathlib.Omega.{arith}
-use lib.ListN.{length, get_or, set, take, drop, replicate, length-map, length-append, length-drop, take-append-drop, drop_of_length-le}
+use lib.ListN.{length, get_or, set, take, drop, length-map, length-drop, take-append-drop, drop_of_length-le}
 use lib.Seq.{take_at, drop_at, take_all}
-use Rattle.gf2.specs.Equation.{Equation, Each, Rising}
-use Rattle.areas.specs.Rows.{padded, laid, Narrow}
-use Rattle.areas.specs.Segments.{joined, offset}
+use Rattle.gf2.specs.Equation.{Equation}
+use Rattle.areas.specs.Rows.{padded, Narrow}
 use Rattle.areas.specs.Stretch.{stretch, put}
-use Rattle.areas.proofs.Stretch.{stretch_whole, put_all, length-put}
+use Rattle.areas.proofs.Stretch.{stretch_whole, put_all}
 use Rattle.lazy.specs.Lazy.{State}
 use Rattle.lazy_setup.specs.declared.Layout.{Layout}
 use Rattle.lazy_setup.specs.Area.{segments, dense_part, words_of}
-use Rattle.lazy_setup.specs.Layout.{sizes, Sized}
 use Rattle.lazy_pops.specs.Laid.{Laid, listed}
-use Rattle.lazy_pops.proofs.Places.{Places, places, segmented}
+use Rattle.lazy_pops.proofs.Places.{places, segmented}
 use Rattle.lazy_pops.proofs.Reading.{size, dense_place}
 use Rattle.lazy_pops.proofs.Segmented.{Segmented, read_part, write_part}
 use Rattle.lazy_pops.proofs.Writing.{relaid}

@@ -1,7 +1,7 @@
 -- The solved equations filled in, one after the other.
-use mathlib.Core.Path.{◌≡◌, refl, sym, ap, ap₂, ◌∙◌, subst}
-use mathlib.Core.List.{List, [], ◌∷◌, ◌++◌, map}
-use Prim.Native.Nat.{ℕ, zero, suc, ◌+◌, ◌-◌, ◌*◌, ◌≤◌, ◌<◌}
+use mathlib.Core.Path.{◌≡◌, sym, ap, ◌∙◌}
+use mathlib.Core.List.{List, ◌∷◌, map}
+use Prim.Native.Nat.{ℕ, ◌+◌, ◌-◌, ◌*◌, ◌≤◌, ◌<◌}
 use native.Mathlib.Nat.{add-sub_cancel_left}
 use native.Mathlib.Numerals.{add-one}
 use native.Mathlib.Omega.{arith}
@@ -20,9 +20,8 @@ use Rattle.areas.proofs.Rows.{get_or-padded}
 use Rattle.lazy.specs.Lazy.{State, Solved, fill}
 use Rattle.lazy_setup.specs.declared.Layout.{Layout}
 use Rattle.lazy_setup.specs.Area.{segments, words_of}
-use Rattle.lazy_setup.specs.Layout.{sizes}
 use Rattle.lazy_pops.specs.Laid.{Laid}
-use Rattle.lazy_pops.proofs.Places.{Places, places, segmented}
+use Rattle.lazy_pops.proofs.Places.{places, segmented}
 use Rattle.lazy_pops.proofs.Reading as reading
 use Rattle.lazy_pops.proofs.Segmented.{read_cell}
 use Rattle.lazy_units.specs.Ending.{MeetFits, met, FillAt}

@@ -1,14 +1,14 @@
 -- The last unit.
-use mathlib.Core.Path.{◌≡◌, refl, sym, ap, ap₂, ◌∙◌, subst}
-use mathlib.Core.List.{List, [], ◌∷◌, ◌++◌, map}
+use mathlib.Core.Path.{◌≡◌, refl, sym, ap}
+use mathlib.Core.List.{List}
 use mathlib.Core.Bool.{Bool, true, false}
-use Prim.Native.Nat.{ℕ, zero, suc, ◌+◌, ◌-◌, ◌*◌, ◌≤◌, ◌<◌}
+use Prim.Native.Nat.{ℕ, ◌-◌, ◌≤◌}
 use native.Mathlib.Omega.{arith}
 use lib.ListN.{length, take, drop, replicate}
-use Rattle.gf2.specs.Equation.{Equation, Each, Rising}
+use Rattle.gf2.specs.Equation.{Equation}
 use Rattle.gf2.specs.Result.{Result, unsolvable, ok}
 use Rattle.gf2.proofs.Results.{unsolvable≢ok, ok_same}
-use Rattle.rows.specs.Picture.{Drawn, Held, rows_of}
+use Rattle.rows.specs.Picture.{Held, rows_of}
 use Rattle.rows.proofs.Holding.{held, carried}
 use Rattle.sparse_rules.specs.Eliminate.{contradicted, back_sub, finish}
 use Rattle.sparse_rows.specs.Reduce.{FinishedBy, left, filled}
@@ -18,9 +18,8 @@ use Rattle.lazy.specs.Lazy.{State, fill, last_unit}
 use Rattle.lazy_setup.specs.declared.Layout.{Layout}
 use Rattle.lazy_setup.specs.declared.Stand.{Stand}
 use Rattle.lazy_setup.specs.Layout.{stand_of}
-use Rattle.lazy_pops.specs.declared.Step.{Step}
 use Rattle.lazy_pops.specs.declared.Step.TheVariants as step
-use Rattle.lazy_pops.proofs.Places.{Places, places}
+use Rattle.lazy_pops.proofs.Places.{places}
 use Rattle.lazy_units.specs.Units.{Stands, Over}
 use Rattle.lazy_units.specs.Ending.{FillAt, UnitAt}
 use Rattle.lazy_units.proofs.DensePart as part

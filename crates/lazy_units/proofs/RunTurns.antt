@@ -1,7 +1,7 @@
 -- The run, unit after unit.
-use mathlib.Core.Path.{◌≡◌, refl, sym, ap, ap₂, ◌∙◌, subst}
-use mathlib.Core.List.{List, [], ◌∷◌}
-use Prim.Native.Nat.{ℕ, zero, suc, pred, ◌+◌, ◌-◌, ◌*◌, ◌≤◌, ◌<◌}
+use mathlib.Core.Path.{◌≡◌, refl, sym, ap, ◌∙◌, subst}
+use mathlib.Core.List.{List}
+use Prim.Native.Nat.{ℕ, zero, suc, ◌+◌, ◌-◌, ◌*◌, ◌≤◌, ◌<◌}
 use native.Mathlib.Nat.{le_refl, mul-le-mul}
 use native.Mathlib.Omega.{arith}
 use lib.ListN.{length}
@@ -10,7 +10,6 @@ use Rattle.gf2.specs.Result.{Result, unsolvable, ok}
 use Rattle.lazy.specs.Lazy.{State, Build, more, ended, unit, after, answer_of}
 use Rattle.lazy.proofs.Turns.{after_end}
 use Rattle.answers.specs.Sizes.{max_variables, max_equations}
-use Rattle.answers.specs.declared.Answer.{Answer}
 use Rattle.answers.specs.declared.Answer.TheVariants as answer
 use Rattle.lazy.specs.Cancelled.{unit_cancels, after_cancels}
 use Rattle.gf2.proofs.Tally.{Tally, tally_begin, tally_turn, tally_last}

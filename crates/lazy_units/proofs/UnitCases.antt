@@ -1,15 +1,14 @@
 -- The cases of a unit.
-use mathlib.Core.Path.{◌≡◌, refl, sym, ap, ap₂, ◌∙◌, subst}
+use mathlib.Core.Path.{◌≡◌, refl, sym, ap, ◌∙◌}
 use mathlib.Core.Logic.{◌≢◌}
-use mathlib.Core.List.{List, [], ◌∷◌, ◌++◌, map}
-use mathlib.Core.Bool.{Bool, true, false, ◌||◌, ◌&&◌}
-use Prim.Native.Nat.{ℕ, zero, suc, ◌+◌, ◌-◌, ◌*◌, ◌≤◌, ◌<◌, suc-le-suc, zero-le}
+use mathlib.Core.List.{List, [], ◌∷◌}
+use mathlib.Core.Bool.{Bool, true, false, ◌&&◌}
+use Prim.Native.Nat.{ℕ, zero, suc, ◌+◌, ◌-◌, ◌*◌, ◌≤◌, ◌<◌}
 use native.Mathlib.Omega.{arith}
-use native.Mathlib.Numerals.{add-one}
 use lib.ListN.{length, get_or}
 use lib.Dec.{eqb, ltb}
-use Rattle.gf2.specs.Equation.{Equation, Each, Rising}
-use Rattle.gf2.specs.ByNumber.{blank, row_of}
+use Rattle.gf2.specs.Equation.{Equation, Rising}
+use Rattle.gf2.specs.ByNumber.{blank}
 use Rattle.gf2.specs.Result.{Result, unsolvable, ok}
 use Rattle.gf2.proofs.Each.{each_from}
 use Rattle.gf2.proofs.Members.{or_r}
@@ -24,12 +23,11 @@ use Rattle.lazy.specs.Cancelled.{pop_cancels, unit_cancels}
 use Rattle.lazy.proofs.Cancelled.{unit_le}
 use Rattle.lazy_setup.specs.declared.Layout.{Layout}
 use Rattle.lazy_setup.specs.declared.Stand.{Stand}
-use Rattle.lazy_setup.specs.Layout.{stand_of}
 use Rattle.lazy_pops.specs.declared.Step.{Step}
 use Rattle.lazy_pops.specs.declared.Step.TheVariants as step
 use Rattle.lazy_pops.specs.Pops as pops
 use Rattle.lazy_units.specs.Tidy.{Tidy}
-use Rattle.lazy_units.specs.Units.{Fit, Stands, left, Gone, Going, Over, ClearAt}
+use Rattle.lazy_units.specs.Units.{Fit, Gone, Going, Over, ClearAt}
 use Rattle.lazy_units.specs.Ending.{UnitAt}
 use Rattle.lazy_units.proofs.Tidying.{laid_tidy}
 use Rattle.lazy_units.proofs.ClearRow.{dense_count, done_count, remaining_count, dense_low, words_long}

@@ -1,5 +1,5 @@
 -- An outer row of the dense part, at the end of the areas.
-use Rattle.std.specs.Prelude.{◌≡◌, List, ℕ, ◌+◌, ◌≤◌, ◌<◌, length, take, drop}
+use Rattle.std.specs.Prelude.{◌≡◌, List, ℕ, ◌≤◌, ◌<◌, length, take, drop}
 use Rattle.answers.specs.Sizes.{max_variables}
 use Rattle.rows.specs.Picture.{Held}
 use Rattle.sparse_rules.specs.Eliminate.{outer_row}

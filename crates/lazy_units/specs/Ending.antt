@@ -3,7 +3,7 @@ use Rattle.std.specs.Prelude.{◌≡◌, List, ℕ, ◌+◌, ◌*◌, ◌≤◌,
 use Rattle.std.specs.Int.Bits.{bit_xor}
 use Rattle.gf2.specs.Equation.{Equation, Each, Rising, eval_vars}
 use Rattle.areas.specs.Stretch.{stretch}
-use Rattle.lazy.specs.Lazy.{State, Solved}
+use Rattle.lazy.specs.Lazy.{State}
 use Rattle.lazy_setup.specs.declared.Layout.{Layout}
 use Rattle.lazy_setup.specs.declared.Stand.{Stand}
 use Rattle.lazy_setup.specs.Area.{words_of}

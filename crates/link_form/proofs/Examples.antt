@@ -1,7 +1,7 @@
 -- The definitions on the file of 38 bytes that describes {0,1}=1, {0,2}=2 for the lazy rules, and on damaged ones.
 use mathlib.Core.Path.{◌≡◌, refl}
 use mathlib.Core.List.{List, [], ◌∷◌, ◌++◌}
-use mathlib.Core.Option.{Option, none, some}
+use mathlib.Core.Option.{none, some}
 use Prim.Native.Nat.{ℕ}
 use Rattle.gf2.specs.Equation.{eqn}
 use Rattle.areas.specs.Stretch.{stretch}

@@ -1,18 +1,16 @@
 -- What a described form says of the file: its rows are all there, and how much they are.
-use mathlib.Core.Path.{◌≡◌, refl, sym, ap, subst, ◌∙◌}
+use mathlib.Core.Path.{◌≡◌, refl, sym, ap, ◌∙◌}
 use mathlib.Core.List.{List}
 use mathlib.Core.Option.{Option, none, some}
-use Prim.Native.Nat.{ℕ, zero, suc, ◌≤◌}
+use Prim.Native.Nat.{ℕ, ◌≤◌}
 use native.Mathlib.Omega.{arith}
 use lib.ListN.{length, drop}
-use Rattle.gf2.specs.Equation.{Equation}
 use Rattle.system.specs.Fits.{listed_in}
-use Rattle.link_form.specs.declared.scan.Form.{Form}
-use Rattle.link_form.specs.declared.scan.Form.TheVariants.{Malformed, Described}
+use Rattle.link_form.specs.declared.scan.Form.TheVariants.{Described}
 use Rattle.link_form.specs.Bytes.{field}
 use Rattle.link_form.specs.File.{Link, max_bytes, header_bytes, width, kind_of, read_rows, read_file, form_of, rows_in, rows_at}
 use Rattle.link_form.proofs.Scanning.{length_rows}
-use Rattle.link_form.proofs.OneFile.{Read, read_is}
+use Rattle.link_form.proofs.OneFile.{read_is}
 
 pub record Loadable (bytes : List ℕ) (kind n m t : ℕ) : Type 0 where
   pub reads : read_rows kind width m (drop header_bytes bytes) ≡ some (rows_at kind width m header_bytes bytes)

@@ -1,25 +1,24 @@
 -- A file and the link that it describes determine each other.
-use mathlib.Core.Path.{◌≡◌, refl, sym, ap, subst, ◌∙◌}
-use mathlib.Core.Bool.{Bool, true, false, ◌&&◌}
-use mathlib.Core.List.{List, [], ◌∷◌, ◌++◌, append_assoc}
+use mathlib.Core.Path.{◌≡◌, refl, sym, ap, ◌∙◌}
+use mathlib.Core.Bool.{Bool, true, false}
+use mathlib.Core.List.{List, ◌∷◌, ◌++◌}
 use mathlib.Core.Logic.{◌↔◌}
 use mathlib.Core.Option.{Option, none, some}
-use Prim.Native.Nat.{ℕ, zero, suc, ◌+◌, ◌-◌, ◌*◌, ◌%◌, ◌≤◌, ◌<◌}
+use Prim.Native.Nat.{ℕ, ◌+◌, ◌-◌, ◌%◌, ◌≤◌, ◌<◌}
 use native.Mathlib.Omega.{arith}
-use lib.ListN.{length, take, drop, length-append, length-drop, take-append-drop}
-use lib.Seq.{length-take-le, take_at, drop_at, drop-drop, take-add, take_all}
+use lib.ListN.{length, drop, length-append, length-drop, take-append-drop}
+use lib.Seq.{take_at, drop-drop}
 use lib.Dec.{eqb, leb}
 use borrow.Author.Tests.{eqb-true, leb-true}
-use Rattle.gf2.specs.Equation.{Equation, Each}
-use Rattle.gf2.proofs.Each.{each_take, each_drop}
+use Rattle.gf2.specs.Equation.{Equation}
+use Rattle.gf2.proofs.Each.{each_drop}
 use Rattle.gf2.proofs.Both.{both}
 use Rattle.areas.specs.Stretch.{stretch}
-use Rattle.areas.proofs.Stretch.{stretch_at, stretch_split, stretch_none, stretch_whole, length-stretch}
 use Rattle.link_form.specs.Bytes.{little, power, field, bytes_of}
 use Rattle.link_form.specs.File.{Link, max_bytes, header_bytes, width, mark, kind_of, sparse_kind, peel_kind, header_kept, described, read_rows, read_file, form_of, rows_out, write_file}
 use Rattle.link_form.specs.declared.scan.Form.TheVariants.{Malformed}
-use Rattle.link_form.specs.Fitting.{AllBytes, RowFits, LinkFits}
-use Rattle.link_form.proofs.Numbers.{length_bytes_of, little_bytes_of, bytes_of_little, little_small, bytes_of_taken, taken_small}
+use Rattle.link_form.specs.Fitting.{AllBytes, LinkFits}
+use Rattle.link_form.proofs.Numbers.{length_bytes_of, little_bytes_of, bytes_of_taken, taken_small}
 use Rattle.link_form.proofs.Scanning.{length_rows}
 use Rattle.link_form.proofs.RoundTrip.{rows_written, rows_read, rows_fit}
 use Rattle.link_form.proofs.Header.{header_kept_lem, read_by_rows}

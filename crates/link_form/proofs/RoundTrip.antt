@@ -4,18 +4,17 @@ use mathlib.Core.Bool.{Bool, true, false, true≢false}
 use mathlib.Core.List.{List, [], ◌∷◌, ◌++◌, append_assoc}
 use mathlib.Core.Option.{Option, none, some}
 use Prim.Native.Nat.{ℕ, zero, suc, ◌+◌, ◌-◌, ◌*◌, ◌≤◌, ◌<◌}
-use native.Mathlib.Nat.{add_assoc}
 use native.Mathlib.Omega.{arith}
 use lib.ListN.{length, take, drop, length-append, length-drop, take-append-drop}
-use lib.Seq.{length-take-le, take_at, drop_at, drop-drop, take-add, take_all}
+use lib.Seq.{take_at, drop_at, take-add}
 use lib.Dec.{eqb, leb}
 use borrow.Author.Tests.{eqb-true, eqb-false, eq-eqb, ne_eqb, le-leb, leb-true}
-use Rattle.gf2.specs.Equation.{Equation, eqn, Each}
-use Rattle.gf2.proofs.Each.{each_take, each_drop}
+use Rattle.gf2.specs.Equation.{Equation, Each}
+use Rattle.gf2.proofs.Each.{each_drop}
 use Rattle.areas.specs.Stretch.{stretch}
 use Rattle.areas.proofs.Stretch.{stretch_at}
 use Rattle.answers.specs.Calls.{pick}
-use Rattle.link_form.specs.Bytes.{little, power, field, fields, bytes_of, all_bytes}
+use Rattle.link_form.specs.Bytes.{little, power, bytes_of, all_bytes}
 use Rattle.link_form.specs.File.{peel_kind, count_bytes, count, row_bytes, row, before, read_rows, row_out, rows_out}
 use Rattle.link_form.specs.Fitting.{AllBytes, RowFits}
 use Rattle.link_form.proofs.Numbers.{length_bytes_of, little_bytes_of, bytes_of_taken, taken_small, length_all_bytes, fields_all_bytes, all_bytes_fields, fields_small}

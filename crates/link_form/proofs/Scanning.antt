@@ -1,6 +1,5 @@
 -- The rows of a file, gone through one after the other.
-use mathlib.Core.Path.{◌≡◌, refl, sym, ap, ap₂, ◌∙◌}
-use mathlib.Core.Logic.{◌⊎◌, inl, inr}
+use mathlib.Core.Path.{◌≡◌, refl, sym, ap, ◌∙◌}
 use mathlib.Core.Bool.{Bool, true, false}
 use mathlib.Core.List.{List, [], ◌∷◌}
 use mathlib.Core.Option.{Option, none, some}
@@ -9,7 +8,7 @@ use native.Mathlib.Nat.{le_refl, mul-le-mul, add_assoc}
 use native.Mathlib.Numerals.{add-one}
 use native.Mathlib.Decide.{dec_lt}
 use native.Mathlib.Omega.{arith}
-use lib.ListN.{length, take, drop, length-drop, drop_of_length-le}
+use lib.ListN.{length, drop, length-drop, drop_of_length-le}
 use lib.Seq.{drop-drop}
 use lib.Dec.{eqb, leb}
 use borrow.Author.Tests.{eq-eqb, ne_eqb, le-leb, lt-leb}
@@ -17,13 +16,10 @@ use Rattle.gf2.specs.Equation.{Equation}
 use Rattle.areas.specs.Stretch.{stretch}
 use Rattle.answers.specs.Calls.{pick}
 use Rattle.system.specs.Fits.{listed_in}
-use Rattle.link_form.specs.declared.scan.Row.{Row}
 use Rattle.link_form.specs.declared.scan.Row.TheVariants.{Missing, Whole}
-use Rattle.link_form.specs.declared.scan.Scan.{Scan}
 use Rattle.link_form.specs.declared.scan.Scan.TheVariants.{Broken, Listed}
-use Rattle.link_form.specs.Bytes.{little, power, field, fields}
+use Rattle.link_form.specs.Bytes.{power, field, fields}
 use Rattle.link_form.specs.File.{peel_kind, count_bytes, count, row_bytes, row, before, read_rows, row_at, scan_of}
-use Rattle.link_form.proofs.Reading.{power_le}
 
 -- ---- one row
 

@@ -1,13 +1,11 @@
 -- Decimal digits, laid from the last one down.
-use mathlib.Core.Path.{◌≡◌, refl, sym, ap, ◌∙◌}
-use mathlib.Core.Bool.{Bool, true, false}
-use mathlib.Core.List.{List, [], ◌∷◌}
+use mathlib.Core.Path.{◌≡◌, sym, ap, ◌∙◌}
+use mathlib.Core.List.{List, ◌∷◌}
 use Prim.Native.Nat.{ℕ, zero, suc, ◌+◌, ◌-◌, ◌*◌, ◌/◌, ◌%◌, ◌≤◌, ◌<◌}
 use native.Mathlib.Numerals.{add-one}
 use native.Mathlib.Omega.{arith}
-use lib.ListN.{length, get_or, set, take, drop, length-set, length-drop, drop_of_length-le}
+use lib.ListN.{length, set, take, drop, length-set, length-drop, drop_of_length-le}
 use lib.Seq.{drop-cons, get_or-set_same, drop-set-lt, take_all}
-use lib.Dec.{ltb}
 use borrow.Author.Tests.{lt-ltb, le-ltb}
 use Rattle.link_lines.specs.Decimal.{most_digits, digits_before, decimal, Laid}
 

@@ -1,16 +1,16 @@
 -- Texts written one behind the other.
-use mathlib.Core.Path.{◌≡◌, refl, sym, ap, subst, ◌∙◌}
+use mathlib.Core.Path.{◌≡◌, refl, sym, subst, ◌∙◌}
 use mathlib.Core.List.{List, [], ◌∷◌, ◌++◌, append-nil, append_assoc}
-use Prim.Native.Nat.{ℕ, zero, suc, ◌+◌, ◌-◌, ◌*◌, ◌≤◌, ◌<◌}
-use native.Mathlib.Nat.{add_assoc, suc-mul, mul-le-mul_right}
+use Prim.Native.Nat.{ℕ, ◌+◌, ◌*◌, ◌≤◌, ◌<◌}
+use native.Mathlib.Nat.{suc-mul}
 use native.Mathlib.Numerals.{add-one}
 use native.Mathlib.Omega.{arith}
-use lib.ListN.{length, take, drop, get_or, set, length-append}
+use lib.ListN.{length, take, get_or, set, length-append}
 use lib.Seq.{take-suc, take_all}
 use Rattle.areas.specs.Stretch.{put}
 use Rattle.areas.proofs.Stretch.{put_none, put_more, length-put}
 use Rattle.areas.proofs.Behind.{put_behind}
-use Rattle.link_lines.specs.Decimal.{most_digits, decimal}
+use Rattle.link_lines.specs.Decimal.{decimal}
 use Rattle.link_lines.specs.Lines.{space, newline, mark_text, ended, header_line, answer_line, value_lines, most_ended, most_header, most_answer}
 use Rattle.link_lines.proofs.Said.{few_digits}
 

@@ -1,5 +1,5 @@
 -- Numbers as decimal digits, the highest first, and lines of them.
-use Rattle.std.specs.Prelude.{List, [], ◌∷◌, ◌++◌, Bool, true, false, ℕ, zero, suc, ◌+◌, ◌-◌, ◌≤◌, ◌*◌, ◌/◌, ◌%◌, ltb, length, drop, ◌≡◌}
+use Rattle.std.specs.Prelude.{List, [], ◌∷◌, true, false, ℕ, zero, suc, ◌+◌, ◌-◌, ◌≤◌, ◌*◌, ◌/◌, ◌%◌, ltb, length, drop, ◌≡◌}
 
 -- no 64-bit number has more decimal digits
 abbrev pub most_digits : ℕ

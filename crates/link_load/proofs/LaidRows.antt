@@ -1,14 +1,11 @@
 -- Rows laid out as starts, variables and constants are read back as the rows.
-use mathlib.Core.Path.{◌≡◌, refl, sym, ap, ap₂, subst, ◌∙◌}
+use mathlib.Core.Path.{◌≡◌, refl, ap, ap₂, ◌∙◌}
 use mathlib.Core.List.{List, [], ◌∷◌, ◌++◌, append_assoc, append-nil}
-use Prim.Native.Nat.{ℕ, zero, suc, ◌+◌, ◌-◌, ◌≤◌, ◌<◌}
-use native.Mathlib.Nat.{add-zero, zero-add, add_assoc}
-use native.Mathlib.Numerals.{add-one}
+use Prim.Native.Nat.{ℕ, zero, suc, ◌+◌, ◌-◌, ◌≤◌}
+use native.Mathlib.Nat.{add-zero, zero-add}
 use native.Mathlib.Omega.{arith}
-use lib.ListN.{length, take, drop, get_or, length-append, length-drop}
-use lib.Seq.{append_snoc}
-use Rattle.gf2.specs.Equation.{Equation, eqn}
-use Rattle.areas.specs.Stretch.{stretch}
+use lib.ListN.{length, take, get_or, length-append}
+use Rattle.gf2.specs.Equation.{Equation}
 use Rattle.areas.proofs.Stretch.{stretch_at}
 use Rattle.system.specs.Fits.{listed_in}
 use Rattle.system.specs.System.{equation_at, equations_from, equations}

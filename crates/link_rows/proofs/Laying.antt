@@ -1,15 +1,12 @@
 -- The arrays that hold a file's rows, cut to their lengths, are the system of these rows.
-use mathlib.Core.Path.{◌≡◌, sym, ap, ◌∙◌}
+use mathlib.Core.Path.{◌≡◌, ap, ◌∙◌}
 use mathlib.Core.List.{List}
 use Prim.Native.Nat.{ℕ, ◌+◌}
-use native.Mathlib.Nat.{zero-add}
 use lib.ListN.{length, take, drop}
 use lib.Seq.{take_at}
-use lib.Dec.{eqb}
 use borrow.Author.Tests.{eq-eqb, ne_eqb}
 use Rattle.gf2.specs.Equation.{Equation}
 use Rattle.areas.specs.Stretch.{put}
-use Rattle.answers.specs.Calls.{Call}
 use Rattle.system.specs.Fits.{listed_in}
 use Rattle.sparse_rules.specs.SparseCall.{sparse_call}
 use Rattle.lazy_calls.specs.LazyCall.{lazy_call}

@@ -5,7 +5,6 @@ use Rattle.answers.specs.Calls.{pick}
 use Rattle.answers.specs.declared.Answer.{Answer}
 use Rattle.answers.specs.declared.Answer.TheVariants.{Solved, TooLarge, BadEntry, WrongSolution, ShortArea}
 use Rattle.peel_rules.specs.Report.{no_report}
-use Rattle.peel_gates.specs.declared.ends.Peeling.{Peeling}
 use Rattle.peel_gates.specs.declared.rules.Gate.{Gate}
 use Rattle.peel_gates.specs.Rooms.{numbers_room, bytes_room}
 

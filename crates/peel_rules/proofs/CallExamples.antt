@@ -1,6 +1,6 @@
 -- Isolation of the peelers' calls at work: two builds that share our edges, computed, and what the theorem says of them.
 use mathlib.Core.Path.{◌≡◌, refl}
-use mathlib.Core.List.{List, [], ◌∷◌}
+use mathlib.Core.List.{[], ◌∷◌}
 use mathlib.Core.Bool.{Bool, true}
 use Prim.Native.Nat.{ℕ}
 use lib.Dec.{ltb}

@@ -2,7 +2,7 @@
 use mathlib.Core.Path.{◌≡◌, refl}
 use mathlib.Core.List.{List, [], ◌∷◌}
 use mathlib.Core.Bool.{Bool, true, false}
-use Prim.Native.Nat.{ℕ, zero, suc, ◌^◌, ◌<◌}
+use Prim.Native.Nat.{ℕ, ◌^◌, ◌<◌}
 use lib.ListN.{length, get_or, set, replicate}
 use lib.Seq.{get_or-set_same, get_or-set_other, set_out}
 use lib.Bits.{xor_lt}

@@ -1,5 +1,5 @@
 -- What a peeler's call and a lookup answer, and what a peeler leaves in every cell that it was lent.
-use Rattle.std.specs.Prelude.{List, Bool, ◌&&◌, ℕ, length, eqb, leb, ltb}
+use Rattle.std.specs.Prelude.{List, ◌&&◌, ℕ, length, eqb, leb, ltb}
 use Rattle.areas.specs.Stretch.{cleared}
 use Rattle.answers.specs.Sizes.{max_variables, max_equations, peel_high_numbers, peel_high_bytes, peel_low_numbers, peel_low_bytes}
 use Rattle.answers.specs.Calls.{pick}

@@ -1,5 +1,5 @@
 -- Edges of three vertices: which vertices they touch, how many touch a vertex, and what is left without one.
-use Rattle.std.specs.Prelude.{List, [], ◌∷◌, Bool, true, false, cond, not, ◌||◌, ◌&&◌, ◌≢◌, ℕ, zero, suc, ◌<◌, eqb, ltb}
+use Rattle.std.specs.Prelude.{List, [], ◌∷◌, Bool, true, false, cond, not, ◌||◌, ◌&&◌, ◌≢◌, ℕ, suc, ◌<◌, eqb, ltb}
 use Rattle.std.proofs.Math.Option.{Option, none, some}
 use Rattle.peeling.specs.declared.numbers.Edge.{Edge}
 

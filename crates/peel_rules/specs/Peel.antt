@@ -1,5 +1,5 @@
 -- Peeling, on lists: the state holds the edges that remain themselves, in their first order, and no edge numbers.
-use Rattle.std.specs.Prelude.{◌≡◌, List, [], ◌∷◌, Bool, cond, ℕ, zero, suc, length, get_or, set, replicate, eqb, leb}
+use Rattle.std.specs.Prelude.{◌≡◌, List, [], ◌∷◌, cond, ℕ, zero, suc, length, get_or, set, replicate, eqb, leb}
 use Rattle.std.proofs.Math.Option.{Option, none, some}
 use Rattle.std.specs.Int.Bits.{bit_xor}
 use Rattle.peeling.specs.declared.numbers.Edge.{Edge}

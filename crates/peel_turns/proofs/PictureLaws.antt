@@ -1,22 +1,22 @@
 -- What a write does to the pictures of the areas.
 use mathlib.Core.Path.{◌≡◌, refl, sym, ap, ◌∙◌}
-use mathlib.Core.List.{List, [], ◌∷◌}
+use mathlib.Core.List.{List, ◌∷◌}
 use mathlib.Core.Bool.{Bool, true, false, cond}
 use mathlib.Core.Logic.{◌≢◌}
 use Prim.Native.Nat.{ℕ, zero, suc, ◌+◌, ◌-◌, ◌/◌, ◌%◌, ◌≤◌, ◌<◌}
 use native.Mathlib.Omega.{arith}
 use native.Mathlib.Numerals.{add-one}
 use lib.ListN.{length, get_or, set, take, drop, length-set}
-use lib.Seq.{get_or-set_same, get_or-set_other, take-set-le, take-set-lt, drop-set-lt, get_or-take, length-take-le, drop-drop}
+use lib.Seq.{get_or-set_same, get_or-set_other, take-set-le, take-set-lt, drop-set-lt, get_or-take, drop-drop}
 use lib.Bits.{bit_xor}
 use lib.Dec.{eqb}
 use Rattle.peeling.specs.declared.numbers.Edge.{Edge}
 use Rattle.peeling.specs.Graph.{Graph, graph_of, degree_of, remove, clear}
-use Rattle.peel_rules.specs.Edges.{Valid, first, second}
-use Rattle.peel_rules.specs.Machine.{side_from, side_no, first_side, second_side, mpush, graph_after, stack_after, mones}
+use Rattle.peel_rules.specs.Edges.{first, second}
+use Rattle.peel_rules.specs.Machine.{side_from, side_no, first_side, second_side, mpush, graph_after, stack_after}
 use Rattle.peel_rules.proofs.PeelEmpty.{first<, second<}
 use Rattle.peel_steps.specs.Pictures.{graph_in, rising, falling, stack_in}
-use Rattle.peel_turns.specs.Steps.{pushed, raised, Holds, Preloaded, Visits, Visited, TakesOff, TakenOff}
+use Rattle.peel_turns.specs.Steps.{pushed, raised, Visits, Visited, TakesOff, TakenOff}
 
 -- ---- stacks
 

@@ -6,20 +6,17 @@ use mathlib.Core.Logic.{◌≢◌}
 use Prim.Native.Nat.{ℕ, zero, suc, ◌+◌, ◌-◌, ◌/◌, ◌%◌, ◌≤◌, ◌<◌}
 use native.Mathlib.Omega.{arith}
 use native.Mathlib.Numerals.{add-one}
-use lib.ListN.{length, get_or, set, take, drop, replicate, length-set}
+use lib.ListN.{length, get_or, take, drop, length-set}
 use lib.Seq.{drop-set-lt}
 use lib.Dec.{eqb}
 use borrow.Author.Tests.{eq-eqb, ne_eqb}
 use Rattle.gf2.specs.Equation.{Each}
-use Rattle.areas.specs.Stretch.{put, zeroed, cleared}
-use Rattle.areas.proofs.Stretch.{cleared_is_put}
+use Rattle.areas.specs.Stretch.{put}
 use Rattle.peeling.specs.declared.numbers.Edge.{Edge}
-use Rattle.peeling.specs.Graph.{Graph, graph_of, degree_of}
+use Rattle.peeling.specs.Graph.{Graph, degree_of}
 use Rattle.peel_rules.specs.Machine.{side_from, stack_after, mones}
-use Rattle.peel_turns.specs.declared.visiting.Heads.{Heads}
 use Rattle.peel_steps.specs.Pictures.{graph_in, rising, stack_in, kept_numbers, kept_bytes}
-use Rattle.peel_turns.specs.Steps.{pushed, raised, Holds, Preloaded, TakesOff, TakenOff, Keeps, top_of, next_of, Tops, Busy, Turns, Turned}
-use Rattle.peel_steps.specs.Pictures.{Rereads, Reads}
+use Rattle.peel_turns.specs.Steps.{pushed, raised, Holds, Preloaded, TakesOff, TakenOff, Keeps, top_of, next_of, Tops, Turns, Turned}
 use Rattle.peel_turns.proofs.PictureLaws.{rising_length, rising_pushed, take_pushed, pushed_length, in_graph}
 
 -- ---- what a flag says

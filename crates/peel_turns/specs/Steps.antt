@@ -1,10 +1,10 @@
 -- What the peelers' steps ask of the areas, and what they make of them.
-use Rattle.std.specs.Prelude.{◌≡◌, List, [], ◌∷◌, Bool, true, false, cond, ℕ, zero, suc, ◌+◌, ◌-◌, ◌/◌, ◌%◌, ◌≤◌, ◌<◌, length, get_or, set, drop, eqb}
+use Rattle.std.specs.Prelude.{◌≡◌, List, Bool, true, false, cond, ℕ, ◌+◌, ◌-◌, ◌/◌, ◌%◌, ◌≤◌, ◌<◌, length, get_or, set, drop, eqb}
 use Rattle.gf2.specs.Equation.{Each}
-use Rattle.answers.specs.Sizes.{max_variables, max_equations}
+use Rattle.answers.specs.Sizes.{max_variables}
 use Rattle.peeling.specs.declared.numbers.Edge.{Edge}
-use Rattle.peeling.specs.Graph.{Graph, graph_of, remove, clear}
-use Rattle.peel_rules.specs.Edges.{Valid, Side, first, second}
+use Rattle.peeling.specs.Graph.{remove, clear}
+use Rattle.peel_rules.specs.Edges.{Valid, first, second}
 use Rattle.peel_rules.specs.Machine.{side_from, side_no, first_side, mpush, graph_after, stack_after, mones}
 use Rattle.peel_turns.specs.declared.visiting.Heads.{Heads}
 use Rattle.peel_steps.specs.Pictures.{graph_in, stack_in, kept_numbers, kept_bytes}

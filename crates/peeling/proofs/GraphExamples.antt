@@ -1,6 +1,6 @@
 -- Adds and removals on graphs of two vertices, and what the graph's theorems say of them.
 use mathlib.Core.Path.{◌≡◌, refl}
-use mathlib.Core.List.{List, [], ◌∷◌}
+use mathlib.Core.List.{[], ◌∷◌}
 use mathlib.Core.Bool.{false}
 use native.Mathlib.Omega.{arith}
 use Rattle.peeling.specs.Graph.{graph_of}

@@ -4,7 +4,7 @@ use mathlib.Core.List.{List, ◌++◌, append_assoc, map}
 use Prim.Native.Nat.{ℕ, ◌+◌, ◌-◌, ◌*◌}
 use native.Mathlib.Nat.{zero-add, sub-zero, add-sub_cancel_left}
 use native.Mathlib.Omega.{arith}
-use lib.ListN.{length, drop, replicate, length-append, length-replicate, replicate-append-replicate}
+use lib.ListN.{length, replicate, length-append, length-replicate, replicate-append-replicate}
 use Rattle.areas.specs.Stretch.{put, zeroed, cleared}
 use Rattle.areas.specs.Rows.{laid}
 use Rattle.areas.proofs.Rows.{length_laid}

@@ -1,22 +1,21 @@
 -- What is read of areas that hold rows, and the rows that they hold after a row is stored or two change places.
 use mathlib.Core.Path.{◌≡◌, refl, sym, ap, ap₂, ◌∙◌, subst, subst₂}
 use mathlib.Core.Logic.{◌≢◌}
-use mathlib.Core.List.{List, [], ◌∷◌, ◌++◌, append_assoc, append-nil, map}
+use mathlib.Core.List.{List, [], ◌++◌, append_assoc, append-nil, map}
 use Prim.Native.Nat.{ℕ, zero, suc, ◌+◌, ◌-◌, ◌*◌, ◌≤◌, ◌<◌}
 use native.Mathlib.Omega.{arith}
 use native.Mathlib.Nat.{zero-add, add-zero}
-use lib.ListN.{length, get_or, set, take, drop, replicate, length-append, length-set, length-map, length-replicate, get_or-map, get_or-append}
-use lib.Seq.{ext_get_or, set-append_left, set_comm, drop_at, get_or-set_same, get_or-set_other}
+use lib.ListN.{length, get_or, set, drop, replicate, length-append, length-set, length-map, length-replicate, get_or-map, get_or-append}
+use lib.Seq.{ext_get_or, set-append_left, set_comm, drop_at}
 use Rattle.areas.specs.Stretch.{stretch, put, exchanged}
-use Rattle.areas.specs.Rows.{padded, laid, Narrow}
-use Rattle.areas.proofs.Rows.{narrow_set, take-padded, padded_full}
-use Rattle.areas.proofs.Offsets.{row_before}
-use Rattle.gf2.specs.Equation.{Each, Equation, eqn, Rising, sum}
+use Rattle.areas.specs.Rows.{padded, Narrow}
+use Rattle.areas.proofs.Rows.{narrow_set, padded_full}
+use Rattle.gf2.specs.Equation.{Each, Equation, eqn, Rising}
 use Rattle.gf2.proofs.Each.{each_at, each_set}
 use Rattle.gf2.proofs.SymDiff.{rising_length}
 use Rattle.answers.specs.Sizes.{row_numbers, row_words}
 use Rattle.rows.specs.Padding.{PaddedRows}
-use Rattle.rows.specs.Picture.{vars_of, length_of, constant_of, picture, Drawn, Kept, tab, slot, rows_of, Held, Became, row_at, swapped, added}
+use Rattle.rows.specs.Picture.{vars_of, length_of, constant_of, picture, Drawn, Kept, tab, slot, rows_of, Held, row_at, swapped}
 use Rattle.rows.proofs.Padding.{rows_padded}
 use Rattle.rows.proofs.Put.{parts, length_parts, parts_put, parts_stretch, parts_first, parts_length, parts_set-length, parts_exchanged, parts_scratch, map-set}
 

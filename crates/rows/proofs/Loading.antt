@@ -1,12 +1,11 @@
 -- Zeros are rows without variables, and a row that has none takes an equation.
-use mathlib.Core.Path.{◌≡◌, refl, sym, ap, ap₂, ◌∙◌, subst}
-use mathlib.Core.List.{List, [], ◌∷◌, ◌++◌, append_assoc, map}
+use mathlib.Core.Path.{◌≡◌, refl, sym, ap, ◌∙◌, subst}
+use mathlib.Core.List.{List, [], ◌∷◌, ◌++◌, map}
 use Prim.Native.Nat.{ℕ, zero, suc, ◌+◌, ◌-◌, ◌*◌, ◌≤◌, ◌<◌}
 use native.Mathlib.Omega.{arith}
 use native.Mathlib.Nat.{sub-zero}
-use lib.ListN.{length, get_or, set, take, drop, replicate, length-replicate, replicate-append-replicate}
+use lib.ListN.{length, set, drop, replicate, length-replicate, replicate-append-replicate}
 use Rattle.areas.specs.Stretch.{put, cleared}
-use Rattle.areas.specs.Rows.{padded, laid}
 use Rattle.areas.proofs.Rows.{laid_empty, padded_full}
 use Rattle.areas.proofs.Offsets.{row_before}
 use Rattle.gf2.specs.Equation.{Each, Equation, eqn, Rising}

@@ -9,7 +9,7 @@ use native.Mathlib.Numerals.{add-one}
 use lib.ListN.{length, get_or, take, drop, length-append, length-drop}
 use lib.Seq.{length-take-le, take_at}
 use Rattle.answers.specs.Sizes.{max_variables, max_equations}
-use Rattle.gf2.specs.Equation.{Equation, Each, Rising}
+use Rattle.gf2.specs.Equation.{Equation, Rising}
 use Rattle.gf2.specs.Result.{unsolvable, ok}
 use Rattle.gf2.proofs.Each.{each_take}
 use Rattle.gf2.specs.Common.{common}

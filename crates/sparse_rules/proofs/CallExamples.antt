@@ -1,7 +1,7 @@
 -- The sparse call by computing: refusals in their order, the smallest systems, dirty areas; and isolation put to use on two builds.
 use mathlib.Core.Path.{◌≡◌, refl}
 use mathlib.Core.Logic.{inl, inr}
-use mathlib.Core.List.{List, [], ◌∷◌}
+use mathlib.Core.List.{[], ◌∷◌}
 use mathlib.Core.Bool.{Bool, true}
 use Prim.Native.Nat.{ℕ}
 use lib.ListN.{get_or, replicate}

@@ -1,16 +1,15 @@
 -- The rules as code tests them: a row is empty where its length is 0, and rows compare by their first variables.
-use mathlib.Core.Path.{◌≡◌, refl, sym, ap, ap₂, ◌∙◌, subst}
+use mathlib.Core.Path.{◌≡◌, refl}
 use mathlib.Core.Logic.{◌≢◌}
-use mathlib.Core.Bool.{Bool, true, false}
-use mathlib.Core.List.{List, [], ◌∷◌, ◌++◌}
-use Prim.Native.Nat.{ℕ, zero, suc, ◌+◌, ◌-◌, ◌≤◌, ◌<◌, Ordering}
+use mathlib.Core.Bool.{true}
+use mathlib.Core.List.{List, [], ◌∷◌}
+use Prim.Native.Nat.{ℕ, zero, suc, ◌≤◌, ◌<◌, Ordering}
 use native.Mathlib.Omega.{arith}
 use lib.ListN.{length, get_or, set}
 use lib.Bits.{bit_xor}
 use Rattle.gf2.specs.Equation.{Equation, eqn, eval_vars, sum}
-use Rattle.gf2.specs.Result.{Result, unsolvable, ok}
 use Rattle.gf2.proofs.SymDiff.{Cmp, is_lt, is_eq, is_gt, cmp, compare_lt, compare_eq, compare_gt}
-use Rattle.sparse_rules.specs.Eliminate.{Meeting, clash, identity, both, summed, meeting, outer_row, meet_row, contradicted, pin}
+use Rattle.sparse_rules.specs.Eliminate.{clash, identity, both, summed, meeting, contradicted, pin}
 
 -- ---- a meeting
 

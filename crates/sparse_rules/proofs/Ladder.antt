@@ -1,11 +1,9 @@
 -- The call's answer on each way through its tests.
-use mathlib.Core.Path.{◌≡◌, refl, sym, ◌∙◌}
+use mathlib.Core.Path.{◌≡◌, refl}
 use mathlib.Core.Logic.{◌≢◌}
-use mathlib.Core.Bool.{true, false, ◌&&◌}
 use mathlib.Core.List.{List}
 use Prim.Native.Nat.{ℕ, ◌≤◌, ◌<◌}
 use lib.ListN.{length}
-use lib.Dec.{eqb, leb}
 use borrow.Author.Tests.{eq-eqb, ne_eqb, le-leb, lt-leb}
 use Rattle.answers.specs.Calls.{Call, ran}
 use Rattle.answers.specs.Sizes.{sparse_numbers, sparse_words}

@@ -1,7 +1,7 @@
 -- The rules at the largest sizes and one past them, by computing.
 use mathlib.Core.Path.{◌≡◌, refl}
-use mathlib.Core.List.{List, [], ◌∷◌}
-use Prim.Native.Nat.{ℕ, ◌+◌}
+use mathlib.Core.List.{[], ◌∷◌}
+use Prim.Native.Nat.{◌+◌}
 use lib.ListN.{replicate}
 use Rattle.answers.specs.Sizes.{max_variables, max_equations, max_listed}
 use Rattle.answers.specs.declared.Answer.TheVariants.{TooLarge, BadShape}

@@ -5,6 +5,7 @@ ghost use Rattle.system.specs.System.{sizes_fit, climbs, starts_kept, shape_kept
 
 use answers::{MAX_EQUATIONS, MAX_LISTED, MAX_VARIABLES};
 
+#[tactic(auto, unfolding(crate::specs::System::sizes_fit))]
 pub fn sizes_fit(n: usize, m: usize, t: usize) -> bool
     ensures { result ≡ sizes_fit n m t }
 {

@@ -1,5 +1,5 @@
 -- What calls on the workbench tell of their sums: cases, and how many variables must have cancelled.
-use Rattle.std.specs.Prelude.{◌≡◌, List, [], ◌∷◌, ℕ, ◌+◌, length}
+use Rattle.std.specs.Prelude.{List, [], ◌∷◌, ℕ, ◌+◌, length}
 use Rattle.answers.specs.Reported.{reported}
 use Rattle.answers.specs.Sizes.{sparse_numbers, sparse_words, lazy_numbers, lazy_words}
 use Rattle.system.specs.System.{equations}

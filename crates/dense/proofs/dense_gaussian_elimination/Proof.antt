@@ -1,6 +1,5 @@
 -- Each return by the tests that led there; the run has the answer of the last.
-use mathlib.Core.Path.{◌≡◌, sym, ◌∙◌}
-use native.Mathlib.Omega.{arith}
+use mathlib.Core.Path.{sym, ◌∙◌}
 use borrow.Author.Rules.{rules}
 use borrow.Author.Tests.{le-leb, lt-leb, eq-eqb}
 use Rattle.gf2.proofs.Tests.{eqb_ne}

@@ -1,6 +1,5 @@
 -- The invariant is `Clearing`, whose laws answer the needs.
 use Prim.Native.Nat.{◌-◌}
-use native.Mathlib.Omega.{arith}
 use borrow.Author.Rules.{rules}
 use Rattle.dense_rows.proofs.BitTest.{column_of}
 use Rattle.dense_steps.proofs.Clearing.{Clearing, clearing_begin, clearing_place, clearing_skip, clearing_turn, clearing_end}

@@ -1,8 +1,5 @@
 -- The rows after the branch are the swapped rows either way; then they are cleared.
-use mathlib.Core.Path.{◌≡◌, refl, sym, ap, ◌∙◌, subst}
-use mathlib.Core.List.{List}
-use Prim.Native.Nat.{ℕ, ◌/◌}
-use native.Mathlib.Omega.{arith}
+use Prim.Native.Nat.{◌/◌}
 use borrow.Author.Rules.{rules}
 use Rattle.dense_rows.specs.Rows.{held, Became}
 use Rattle.dense_rows.specs.Steps.{swap_rows, clear_below}
@@ -16,7 +13,7 @@ brought : (c : tie.Joined-pivot-rank) → let s = c in
 brought c =
     let a = c.args in
     elim c.if-pivot-rank.branch [
-      then-pivot-rank v ↦ rw v.words-is v.swap_rows.ensures
+      | then-pivot-rank v ↦ rw v.words-is v.swap_rows.ensures
       | else-pivot-rank v ↦ became_same a.m a.w (a.col / 64) a.rank a.pivot a.words.now c.if-pivot-rank.words v.if-pivot-rank.false v.words-is
     ]
 

@@ -1,6 +1,5 @@
 -- The invariant is `Xoring`, whose laws answer the needs.
 use Prim.Native.Nat.{◌-◌}
-use native.Mathlib.Omega.{arith}
 use borrow.Author.Rules.{rules}
 use Rattle.dense_steps.proofs.Xoring.{Xoring, xoring_begin, xoring_turn, xoring_end}
 use Rattle.dense_steps.proofs.xor_words.Statement.{statement}

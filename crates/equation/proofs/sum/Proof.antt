@@ -1,6 +1,6 @@
 -- At each return the tests on the way there pick the case of `sum_call`.
 use borrow.Author.Rules.{rules}
-use borrow.Author.Tests.{le-leb, lt-leb, not-true, not-false}
+use borrow.Author.Tests.{le-leb, lt-leb}
 use mathlib.Core.Path.{◌≡◌, refl, sym, ◌∙◌}
 use mathlib.Core.Bool.{true}
 use mathlib.Core.List.{List}

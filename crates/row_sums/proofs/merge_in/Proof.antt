@@ -3,7 +3,7 @@ use Prim.Native.Nat.{◌+◌, ◌-◌, ◌<◌}
 use native.Mathlib.Omega.{arith}
 use lib.ListN.{length}
 use borrow.Author.Rules.{rules}
-use borrow.Author.Tests.{ltb-true, ltb-false}
+use borrow.Author.Tests.{ltb-true}
 use Rattle.row_sums.proofs.InRoom.{MergingIn, merging_begin, less_low, more_low, merging_less, merging_more, merging_same, left_over, right_over}
 use Rattle.row_sums.proofs.merge_in.Statement.{statement}
 use Rattle.row_sums.proofs.merge_in.Tie as tie

@@ -1,5 +1,5 @@
 -- The sum of two rows of an area that holds rows is stored in the first, and its length tells what both shared.
-use Prim.Native.Nat.{ℕ, ◌+◌, ◌*◌, ◌≤◌, ◌<◌}
+use Prim.Native.Nat.{◌+◌, ◌*◌}
 use Rattle.areas.proofs.Offsets.{row_before}
 use Rattle.rows.proofs.Adding.{add_fits, sum_short, sum_within, sum_falls, add_done}
 use native.Mathlib.Omega.{arith}

@@ -2,7 +2,7 @@
 use Prim.Native.Nat.{◌-◌, ◌+◌}
 use native.Mathlib.Omega.{arith}
 use borrow.Author.Rules.{rules}
-use Rattle.rows.proofs.Padding.{Emptying, RowHere, row_here, emptying_begin, emptying_turn, emptying_end}
+use Rattle.rows.proofs.Padding.{Emptying, row_here, emptying_begin, emptying_turn, emptying_end}
 use Rattle.rows.proofs.empty_rows.Statement.{statement}
 use Rattle.rows.proofs.empty_rows.Tie as tie
 

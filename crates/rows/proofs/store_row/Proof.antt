@@ -1,5 +1,4 @@
 -- A row that has no variables takes an equation.
-use Prim.Native.Nat.{ℕ, ◌+◌, ◌*◌, ◌≤◌, ◌<◌}
 use Rattle.areas.proofs.Offsets.{row_before}
 use Rattle.rows.proofs.Loading.{store_short, store_fits, store_done}
 use native.Mathlib.Omega.{arith}

@@ -1,6 +1,5 @@
 -- Each return is the definition at the rules' answer and the tests that led there; no refusal but 6 has made a sum.
-use mathlib.Core.Path.{◌≡◌, sym, ◌∙◌}
-use Prim.Native.Nat.{ℕ, ◌≤◌}
+use mathlib.Core.Path.{sym, ◌∙◌}
 use Rattle.answers.proofs.Reported.{none_counted, all_counted}
 use Rattle.answers.specs.Sizes.{sparse_numbers, sparse_words}
 use Rattle.system.specs.System.{equations}

@@ -1,7 +1,7 @@
 -- Each return is the definition at the tests that led there.
 use mathlib.Core.Path.{sym, ◌∙◌}
 use borrow.Author.Rules.{rules}
-use borrow.Author.Tests.{not-true, not-false, lt-ltb, le-ltb}
+use borrow.Author.Tests.{lt-ltb, le-ltb}
 use Rattle.system.specs.System.{system_rules}
 use Rattle.system.proofs.Soundness.{sizes_sound, shape_starts}
 use Rattle.system.proofs.rules.Statement.{statement}

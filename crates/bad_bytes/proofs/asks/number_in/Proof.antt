@@ -1,4 +1,4 @@
-use Rattle.std.proofs.Common.{◌≡◌, ◌+◌, ◌-◌, ◌*◌, ◌<◌, ◌≤◌, length, arith, rules}
+use Rattle.std.proofs.Common.{◌-◌, ◌≤◌, length, rules}
 use Rattle.bad_bytes.proofs.asks.number_in.Statement.{statement}
 use Rattle.bad_bytes.proofs.asks.number_in.Tie as tie
 use Rattle.bad_bytes.proofs.asks.number_in.Reads as reads

@@ -1,4 +1,4 @@
-use Rattle.std.proofs.Common.{◌≡◌, ◌+◌, ◌-◌, ◌*◌, ◌<◌, ◌≤◌, length, arith, rules}
+use Rattle.std.proofs.Common.{◌-◌, ◌≤◌, rules}
 use Rattle.bad_bytes.proofs.files.changes_at.Statement.{statement}
 use Rattle.bad_bytes.proofs.files.changes_at.Tie as tie
 use Rattle.bad_bytes.proofs.files.changes_at.Reads as reads

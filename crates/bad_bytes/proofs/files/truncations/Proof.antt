@@ -1,4 +1,4 @@
-use Rattle.std.proofs.Common.{◌≡◌, ◌+◌, ◌-◌, ◌*◌, ◌<◌, ◌≤◌, length, sym, arith, length-take-le, rules}
+use Rattle.std.proofs.Common.{◌-◌, ◌≤◌, sym, arith, length-take-le, rules}
 use Rattle.bad_bytes.proofs.files.truncations.Statement.{statement}
 use Rattle.bad_bytes.proofs.files.truncations.Tie as tie
 use Rattle.bad_bytes.proofs.files.truncations.Reads as reads

@@ -14,13 +14,6 @@ invariant_loop table m n alive v₀ v = Crowding n (take m table) v
 abbrev decreases_loop : tie.decreases-loop-v
 decreases_loop table m n alive v₀ v = n - v
 
-returns : tie.Need-returns-then-degree-ge64 invariant_loop decreases_loop
-returns c =
-    let a = c.args in
-    let l = c.loop-v in
-    let d = c.degree.ensures.0 ∙ ap (degree l.v) (all_alive a.m a.table (omega arith) (omega arith)) in
-    crowding_found l.invariant (omega arith)
-
 loop_again : tie.Need-loop-v-preserved invariant_loop decreases_loop
 loop_again c =
     let a = c.args in
@@ -28,8 +21,8 @@ loop_again c =
     let d = c.degree.ensures.0 ∙ ap (degree l.v) (all_alive a.m a.table (omega arith) (omega arith)) in
     crowding_turn l.invariant c.loop-v-test.true (omega arith)
 
-returns_2 : tie.Need-returns invariant_loop decreases_loop
-returns_2 c = crowding_end c.loop-v.invariant c.loop-v-test.false
+returns : tie.Need-returns invariant_loop decreases_loop
+returns c = crowding_end c.loop-v.invariant c.loop-v-test.false
 
 pub crowded_spec : {M : Type 1} → statement M
 crowded_spec =
@@ -40,8 +33,12 @@ crowded_spec =
     (λ c. search (rules, crowding_begin))  -- loop-holds
     (λ c. search rules)  -- cast-degree
     (λ c κs. search rules)  -- degree-requires
-    returns
+    (λ c.
+    let a = c.args in
+    let l = c.loop-v in
+    let d = c.degree.ensures.0 ∙ ap (degree l.v) (all_alive a.m a.table (omega arith) (omega arith)) in
+    crowding_found l.invariant (omega arith))  -- returns-then
     (λ c. search rules)  -- add-v
     (λ c. search rules)  -- loop-less
     loop_again
-    returns_2)
+    returns)

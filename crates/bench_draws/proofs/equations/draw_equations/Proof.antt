@@ -1,8 +1,7 @@
 use mathlib.Core.Path.{◌≡◌}
-use Prim.Native.Nat.{◌+◌, ◌-◌, ◌*◌, ◌≤◌, ◌<◌}
+use Prim.Native.Nat.{◌-◌, ◌≤◌}
 use lib.ListN.{length}
 use borrow.Author.Rules.{rules}
-use native.Mathlib.Omega.{arith}
 use Rattle.bench_draws.proofs.equations.draw_equations.Statement.{statement}
 use Rattle.bench_draws.proofs.equations.draw_equations.Tie as tie
 use Rattle.bench_draws.proofs.equations.draw_equations.Reads as reads

@@ -1,8 +1,5 @@
-use mathlib.Core.Path.{◌≡◌}
-use Prim.Native.Nat.{◌+◌, ◌-◌, ◌*◌, ◌≤◌, ◌<◌}
-use lib.ListN.{length}
+use Prim.Native.Nat.{◌+◌, ◌-◌, ◌≤◌}
 use borrow.Author.Rules.{rules}
-use native.Mathlib.Omega.{arith}
 use Rattle.bench_draws.proofs.equations.draw_gap.Statement.{statement}
 use Rattle.bench_draws.proofs.equations.draw_gap.Tie as tie
 use Rattle.bench_draws.proofs.equations.draw_gap.Reads as reads

@@ -1,9 +1,7 @@
 -- The invariant is `Checking`, whose laws answer the needs.
 use mathlib.Core.Path.{sym, ◌∙◌}
 use Prim.Native.Nat.{◌-◌}
-use native.Mathlib.Omega.{arith}
 use borrow.Author.Rules.{rules}
-use borrow.Author.Tests.{not-true, not-false}
 use Rattle.dense.proofs.RowRules.{Checking, checking_begin, checking_row, checking_found, checking_turn, checking_end}
 use Rattle.dense.proofs.rules.check_rows.Statement.{statement}
 use Rattle.dense.proofs.rules.check_rows.Tie as tie

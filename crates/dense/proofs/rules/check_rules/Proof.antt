@@ -1,8 +1,6 @@
 -- Each return by the tests that led there.
 use mathlib.Core.Path.{◌∙◌}
 use mathlib.Core.List.{[]}
-use Prim.Native.Nat.{◌*◌}
-use native.Mathlib.Omega.{arith}
 use borrow.Author.Rules.{rules}
 use borrow.Author.Tests.{le-leb, lt-leb}
 use Rattle.answers.proofs.Rooms.{row_words_fit}

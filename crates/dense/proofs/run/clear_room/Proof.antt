@@ -1,6 +1,4 @@
 -- Zeros from 0 up to the room are the cleared room.
-use Prim.Native.Nat.{◌+◌, ◌*◌}
-use native.Mathlib.Omega.{arith}
 use borrow.Author.Rules.{rules}
 use Rattle.dense.proofs.Running.{zeroed_cleared}
 use Rattle.dense.proofs.run.clear_room.Statement.{statement}

@@ -1,7 +1,6 @@
 -- The two copies, as rows.
 use mathlib.Core.Path.{sym}
 use Prim.Native.Nat.{◌*◌}
-use native.Mathlib.Omega.{arith}
 use lib.Seq.{length-take-le}
 use borrow.Author.Rules.{rules}
 use Rattle.dense.proofs.Running.{loaded_became}

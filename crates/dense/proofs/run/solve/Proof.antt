@@ -1,8 +1,7 @@
 -- The calls one after the other: what the run's laws say of them.
-use mathlib.Core.Path.{◌≡◌, refl, sym, ap, ◌∙◌, subst}
+use mathlib.Core.Path.{refl, sym, ◌∙◌}
 use native.Mathlib.Omega.{arith}
 use borrow.Author.Rules.{rules}
-use Rattle.dense_walk.specs.Stairs.{Ready}
 use Rattle.dense.specs.Fits.{DenseFits}
 use Rattle.dense.proofs.Lending.{dense_kept_sound}
 use Rattle.dense.proofs.Running.{run_refused, run_solved, run_ready, run_numbers, run_words, zeroed_length, filled}

@@ -1,6 +1,5 @@
 -- The invariant is `Fitting`, whose laws answer the needs.
 use Prim.Native.Nat.{◌-◌}
-use native.Mathlib.Omega.{arith}
 use borrow.Author.Rules.{rules}
 use Rattle.dense_rows.proofs.Emptiness.{Fitting, fitting_begin, fitting_found, fitting_turn, fitting_end}
 use Rattle.dense_rows.proofs.fits.row_fits.Statement.{statement}

@@ -1,6 +1,5 @@
 -- The invariant is `Searching`, whose laws answer the needs.
 use Prim.Native.Nat.{◌-◌}
-use native.Mathlib.Omega.{arith}
 use borrow.Author.Rules.{rules}
 use Rattle.dense_rows.proofs.BitTest.{column_of}
 use Rattle.dense_rows.proofs.Searching.{Searching, searching_begin, searching_place, searching_found, searching_turn, searching_end}

@@ -1,6 +1,5 @@
 -- The invariant is `Summing`, whose laws answer the needs.
 use Prim.Native.Nat.{◌-◌}
-use native.Mathlib.Omega.{arith}
 use borrow.Author.Rules.{rules}
 use Rattle.dense_rows.proofs.SetBits.{Summing, summing_begin, summing_listed, summing_turn, summing_end}
 use Rattle.dense_rows.proofs.values.row_value.Statement.{statement}

@@ -1,5 +1,4 @@
 -- The invariant is `Valuing`, whose laws answer the needs.
-use native.Mathlib.Omega.{arith}
 use borrow.Author.Rules.{rules}
 use lib.Count.{trailing_le}
 use Rattle.dense_rows.proofs.SetBits.{Valuing, valuing_begin, valuing_place, valuing_less, valuing_turn, valuing_end}

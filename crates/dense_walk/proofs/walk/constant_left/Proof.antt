@@ -1,6 +1,5 @@
 -- The invariant is `Leaving`, whose laws answer the needs.
 use Prim.Native.Nat.{◌-◌}
-use native.Mathlib.Omega.{arith}
 use borrow.Author.Rules.{rules}
 use Rattle.dense_walk.proofs.Walking.{Leaving, leaving_begin, leaving_found, leaving_turn, leaving_end}
 use Rattle.dense_walk.proofs.walk.constant_left.Statement.{statement}

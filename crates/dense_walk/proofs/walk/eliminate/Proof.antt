@@ -1,9 +1,7 @@
 -- The invariant is `Walking`, whose laws answer the needs.
-use mathlib.Core.Path.{◌≡◌, sym, ◌∙◌}
+use mathlib.Core.Path.{sym, ◌∙◌}
 use mathlib.Core.Logic.{inl, inr}
 use Prim.Native.Nat.{◌-◌}
-use native.Mathlib.Omega.{arith}
-use lib.ListN.{length-set}
 use borrow.Author.Rules.{rules}
 use Rattle.dense_walk.proofs.Walking.{Walking, walking_begin, walking_place, walking_skip, walking_turn, walking_end}
 use Rattle.dense_walk.proofs.walk.eliminate.Statement.{statement}
@@ -24,7 +22,7 @@ take_pivot_requires c κs =
 
 loop_again_2 : tie.Need-loop-col-preserved invariant_loop decreases_loop
 loop_again_2 c =
-    walking_turn c.loop-col.invariant c.loop-col-test.true c.if-rank-m.false (sym c.in-At.is ∙ c.find_pivot.ensures)
+    walking_turn c.loop-col.invariant c.loop-col-test.true (search rules) (sym c.in-At.is ∙ c.find_pivot.ensures)
     c.take_pivot.ensures
 
 pub eliminate_spec : {M : Type 1} → statement M
@@ -39,7 +37,7 @@ eliminate_spec =
     (λ c. search rules)  -- enum_told
     (λ c. search rules)  -- add-col
     (λ c. search rules)  -- loop-less
-    (λ c. walking_skip c.loop-col.invariant c.loop-col-test.true c.if-rank-m.false (sym c.in_default.is ∙ c.find_pivot.ensures))  -- loop-again
+    (λ c. walking_skip c.loop-col.invariant c.loop-col-test.true (search rules) (sym c.in_default.is ∙ c.find_pivot.ensures))  -- loop-again
     take_pivot_requires
     (λ c. search rules)  -- cast-numbers
     (λ c. search rules)  -- mul-numbers
@@ -53,4 +51,4 @@ eliminate_spec =
     (λ c. walking_end c.loop-col.invariant (inl c.loop-col-test.false))  -- returns
     (λ c. search rules)  -- same-length-3
     (λ c. search rules)  -- same-length-4
-    (λ c. walking_end c.loop-col.invariant (inr c.if-rank-m.true)))
+    (λ c. walking_end c.loop-col.invariant (inr (search rules))))

@@ -4,7 +4,7 @@ use native.Mathlib.Nat.{zero-add}
 use native.Mathlib.Omega.{arith}
 use lib.ListN.{length}
 use borrow.Author.Rules.{rules}
-use borrow.Author.Tests.{ltb-true, ltb-false}
+use borrow.Author.Tests.{ltb-true}
 use Rattle.gf2.proofs.SymDiff.{length-sym_diff-le}
 use Rattle.equation.proofs.Turn.{Merged, merged_begin, less_fits, more_fits, on_less, on_more, on_both, left_done, right_done}
 use Rattle.equation.proofs.merge.merge.Statement.{statement}

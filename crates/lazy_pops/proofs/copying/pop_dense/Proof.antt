@@ -1,6 +1,7 @@
 use Prim.Native.Nat.{◌+◌}
 use Rattle.lazy_pops.proofs.DensePop.{copy_at, equation_cells, pop_copied, pop_clash, pop_identity}
 use native.Mathlib.Omega.{arith}
+use borrow.Author.Rules.{rules}
 use Rattle.lazy_pops.proofs.copying.pop_dense.Statement.{statement}
 use Rattle.lazy_pops.proofs.copying.pop_dense.Tie as tie
 
@@ -37,11 +38,8 @@ mul_if2 c = let b = equation_cells c.requires.at in omega arith
 slice_read_if2 : tie.Need-bounds-words-e
 slice_read_if2 c = let b = equation_cells c.requires.at in omega arith
 
-returns_2 : tie.Need-returns-then-words-e-ne0
-returns_2 c = λ sys s es a. pop_clash a c.if-len-ne0.false c.if-words-e-ne0.true
-
-returns_3 : tie.Need-returns
-returns_3 c = λ sys s es a. pop_identity a c.if-len-ne0.false c.if-words-e-ne0.false
+returns_2 : tie.Need-returns
+returns_2 c = λ sys s es a. pop_identity a c.if-len-ne0.false (search rules)
 
 pub pop_dense_spec : {M : Type 1} → statement M
 pop_dense_spec =
@@ -58,5 +56,5 @@ pop_dense_spec =
     returns
     mul_if2
     slice_read_if2
-    returns_2
-    returns_3)
+    (λ c sys s es a. pop_clash a c.if-len-ne0.false (search rules))  -- returns-then
+    returns_2)

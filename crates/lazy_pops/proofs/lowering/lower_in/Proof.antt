@@ -26,7 +26,7 @@ loop_again c =
     let i = c.loop-k.invariant in
     let h = c.loop-k-test.true in
     elim c.if-e-skip.branch [
-      then-e-skip w ↦ rw (w.numbers-is, w.t-is, w.lower-t.ensures.0, w.lower-t.ensures.1) (turn_on i h w.if-e-skip.true)
+      | then-e-skip w ↦ rw (w.numbers-is, w.t-is, w.lower-t.ensures.0, w.lower-t.ensures.1) (turn_on i h w.if-e-skip.true)
       | else-e-skip w ↦ rw (w.numbers-is, w.t-is) (turn_skip i h w.if-e-skip.false)
     ]
 

@@ -45,7 +45,7 @@ add_cancelled c =
     let w = c.requires in
     let i = c.loop-k.invariant.2 _ _ _ _ _ w.at in
     let h = c.loop-k-test.true in
-    let r = adding_room i h c.if-f-e.true (c.add_row.ensures.1 _ _ _ _ (adding_fits i h)) in
+    let r = adding_room i h (search rules) (c.add_row.ensures.1 _ _ _ _ (adding_fits i h)) in
     let l = rows_in i in
     record { fits = omega (arith, c.loop-k.invariant.0) }
 
@@ -54,16 +54,16 @@ loop_again c =
     let i = c.loop-k.invariant in
     let h = c.loop-k-test.true in
     elim c.if-f-e.branch [
-      then-f-e w ↦
-      rw (w.numbers-is, w.words-is, w.cancelled-is) (
-        w.numbers-1.given ∙ i.0,
-        w.words-1.given ∙ i.1,
-        λ m layout sys s v a.
-            let f = adding_fits (i.2 m layout sys s v a) h in
-            adding_turn (i.2 m layout sys s v a) h w.if-f-e.true (w.add_row.ensures.0 m layout sys _ f) (w.add_row.ensures.1 m layout sys _ f),
-      )
+      | then-f-e w ↦
+          rw (w.numbers-is, w.words-is, w.cancelled-is) (
+            w.numbers-1.given ∙ i.0,
+            w.words-1.given ∙ i.1,
+            λ m layout sys s v a.
+                let f = adding_fits (i.2 m layout sys s v a) h in
+                adding_turn (i.2 m layout sys s v a) h w.if-f-e.true (w.add_row.ensures.0 m layout sys _ f) (w.add_row.ensures.1 m layout sys _ f),
+          )
       | else-f-e w ↦
-      rw (w.numbers-is, w.words-is, w.cancelled-is) (i.0, i.1, λ m layout sys s v a. adding_skip (i.2 m layout sys s v a) h w.if-f-e.false)
+          rw (w.numbers-is, w.words-is, w.cancelled-is) (i.0, i.1, λ m layout sys s v a. adding_skip (i.2 m layout sys s v a) h w.if-f-e.false)
     ]
 
 same_length : tie.Need-shape_of-numbers invariant_loop decreases_loop

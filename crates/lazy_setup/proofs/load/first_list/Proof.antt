@@ -11,16 +11,16 @@ abbrev decreases_loop : tie.decreases-loop-i
 decreases_loop numbers₀ m priority list top₀ i₀ numbers top i = i
 
 add_numbers : tie.Need-overflow_add-numbers invariant_loop decreases_loop
-add_numbers c = let h = listing_room c.loop-i.invariant c.loop-i-test.true c.if-numbers-priority-le1.true in search rules
+add_numbers c = let h = listing_room c.loop-i.invariant c.loop-i-test.true (search rules) in search rules
 
 mul_numbers : tie.Need-offset_bounds-numbers-list invariant_loop decreases_loop
-mul_numbers c = let h = listing_room c.loop-i.invariant c.loop-i-test.true c.if-numbers-priority-le1.true in search rules
+mul_numbers c = let h = listing_room c.loop-i.invariant c.loop-i-test.true (search rules) in search rules
 
 slice_write_numbers : tie.Need-bounds-numbers-list invariant_loop decreases_loop
-slice_write_numbers c = let h = listing_room c.loop-i.invariant c.loop-i-test.true c.if-numbers-priority-le1.true in search rules
+slice_write_numbers c = let h = listing_room c.loop-i.invariant c.loop-i-test.true (search rules) in search rules
 
 add_top : tie.Need-overflow_add-top invariant_loop decreases_loop
-add_top c = let h = listing_room c.loop-i.invariant c.loop-i-test.true c.if-numbers-priority-le1.true in search rules
+add_top c = let h = listing_room c.loop-i.invariant c.loop-i-test.true (search rules) in search rules
 
 pub first_list_spec : {M : Type 1} → statement M
 first_list_spec =
@@ -39,8 +39,8 @@ first_list_spec =
     slice_write_numbers
     add_top
     (λ c. search rules)  -- loop-less
-    (λ c. listing_push c.loop-i.invariant c.loop-i-test.true c.if-numbers-priority-le1.true)  -- loop-again
+    (λ c. listing_push c.loop-i.invariant c.loop-i-test.true (search rules))  -- loop-again
     (λ c. search rules)  -- loop-less-2
-    (λ c. listing_pass c.loop-i.invariant c.loop-i-test.true c.if-numbers-priority-le1.false)  -- loop-again-2
+    (λ c. listing_pass c.loop-i.invariant c.loop-i-test.true (search rules))  -- loop-again-2
     (λ c. search rules)  -- same-length
     (λ c. listing_end c.loop-i.invariant c.loop-i-test.false))

@@ -5,7 +5,7 @@ use Rattle.lazy_units.proofs.units.unit.Statement.{statement}
 use Rattle.lazy_units.proofs.units.unit.Tie as tie
 
 pop_requires : tie.Need-pop-requires
-pop_requires c κs = let w = c.requires in record { sys = w.sys; s = w.s; at = pop_at w.at c.if-stand-ne0.true }
+pop_requires c κs = let w = c.requires in record { sys = w.sys; s = w.s; at = pop_at w.at (search rules) }
 
 same_length : tie.Need-shape_of-numbers-then-stand-ne0
 same_length c = c.numbers-1.given

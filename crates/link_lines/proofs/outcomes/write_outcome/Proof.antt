@@ -3,14 +3,6 @@ use borrow.Author.Rules.{rules}
 use Rattle.link_lines.proofs.outcomes.write_outcome.Statement.{statement}
 use Rattle.link_lines.proofs.outcomes.write_outcome.Tie as tie
 
-returns : tie.Need-returns-then-number-gt0
-returns c =
-    let s = c in
-    let a = s.args in
-    let e = c.write_refusal-p.ensures in
-    let number = c.number-number in
-    retold a.at c.write_refusal-p.result a.out.now _ (refused_text a.answer a.values.now number.result number.ensures c.if-number-gt0.true) e.0 e.1
-
 write_values_requires : tie.Need-write_values-requires
 write_values_requires c κs =
     let s = c in
@@ -18,15 +10,15 @@ write_values_requires c κs =
     let e = c.write_refusal-p.ensures in
     values_room a.answer a.values.now a.out.now a.at c.write_refusal-p.result _ s.requires e.0 e.1
 
-returns_2 : tie.Need-returns
-returns_2 c =
+returns : tie.Need-returns
+returns c =
     let s = c in
     let a = s.args in
     let e = c.write_refusal-p.ensures in
     let number = c.number-number in
     let w = c.write_values.ensures in
     let t = values_told a.answer a.values.now a.out.now a.at c.write_refusal-p.result _ s.requires e.0 e.1 c.write_values.result _ w.0 w.1 in
-    retold a.at c.write_values.result a.out.now _ (solved_text a.answer a.values.now number.result number.ensures c.if-number-gt0.false) t.0 t.1
+    retold a.at c.write_values.result a.out.now _ (solved_text a.answer a.values.now number.result number.ensures (search rules)) t.0 t.1
 
 pub write_outcome_spec : {M : Type 1} → statement M
 write_outcome_spec =
@@ -35,7 +27,11 @@ write_outcome_spec =
     (λ c κs. search rules)  -- write-refusal-requires
     (λ c κs. search rules)  -- number-requires
     (λ c. search rules)  -- same-length
-    returns
+    (λ c.
+    let a = c.args in
+    let e = c.write_refusal-p.ensures in
+    let number = c.number-number in
+    retold a.at c.write_refusal-p.result a.out.now _ (refused_text a.answer a.values.now number.result number.ensures (search rules)) e.0 e.1)  -- returns-then
     write_values_requires
     (λ c. search rules)  -- same-length-2
-    returns_2)
+    returns)

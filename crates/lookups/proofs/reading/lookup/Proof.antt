@@ -1,3 +1,4 @@
+use Rattle.std.specs.Prelude.{◌<◌, ◌≤◌, length}
 use Rattle.peel_rules.specs.Edges.{edge}
 use Rattle.lookups.proofs.ReadingLaws.{is_valid_lem, numbered}
 use Rattle.peel_rules.specs.Peel.{edge_xor}
@@ -6,9 +7,6 @@ use mathlib.Core.Path.{refl, sym, ◌∙◌}
 use borrow.Author.Rules.{rules}
 use Rattle.lookups.proofs.reading.lookup.Statement.{statement}
 use Rattle.lookups.proofs.reading.lookup.Tie as tie
-
-returns : tie.Need-returns-then-table-gt-MAX_VARIABLES
-returns c = numbered _ _ _ _ _ (simp (lt-leb _ _ c.if-table-gt-MAX_VARIABLES.true) refl)
 
 keeps_rule_requires : tie.Need-keeps_rule-requires
 keeps_rule_requires c κs = search rules
@@ -40,18 +38,24 @@ mul_z c = search rules
 shared_slice_read_z : tie.Need-bounds-table-c
 shared_slice_read_z c = let v = is_valid_lem _ (edge c.args.a.0 c.args.b.0 c.args.c.0 0) (sym c.keeps_rule.ensures ∙ c.if-keeps_rule.true) in v.c<
 
-returns_2 : tie.Need-returns-then-keeps_rule
+returns : tie.Need-returns-then-keeps_rule
 unfolding edge_xor
-returns_2 c = numbered _ _ _ _ _ (simp (le-leb _ _ c.if-table-gt-MAX_VARIABLES.false, sym c.keeps_rule.ensures ∙ c.if-keeps_rule.true) refl)
+returns c =
+    let short : length c.args.table.now ≤ 16384 = search rules in
+    numbered _ _ _ _ _ (simp (le-leb _ _ short, sym c.keeps_rule.ensures ∙ c.if-keeps_rule.true) refl)
 
-returns_3 : tie.Need-returns
-returns_3 c = numbered _ _ _ _ _ (simp (le-leb _ _ c.if-table-gt-MAX_VARIABLES.false, sym c.keeps_rule.ensures ∙ c.if-keeps_rule.false) refl)
+returns_2 : tie.Need-returns
+returns_2 c =
+    let short : length c.args.table.now ≤ 16384 = search rules in
+    numbered _ _ _ _ _ (simp (le-leb _ _ short, sym c.keeps_rule.ensures ∙ c.if-keeps_rule.false) refl)
 
 pub lookup_spec : {M : Type 1} → statement M
 lookup_spec =
     tie.close
     (tie.spec
-    returns
+    (λ c.
+    let long : 16384 < length c.args.table.now = search rules in
+    numbered _ _ _ _ _ (simp (lt-leb _ _ long) refl))  -- returns-then
     keeps_rule_requires
     cast_x
     mul_x
@@ -62,5 +66,5 @@ lookup_spec =
     cast_z
     mul_z
     shared_slice_read_z
-    returns_2
-    returns_3)
+    returns
+    returns_2)

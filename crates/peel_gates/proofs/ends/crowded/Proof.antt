@@ -1,8 +1,6 @@
-use Rattle.answers.specs.declared.Answer.TheVariants.{Solved, CrowdedVertex, Stuck}
-use Rattle.peel_gates.specs.declared.ends.Peeling.{Peeling}
+use Rattle.answers.specs.declared.Answer.TheVariants.{CrowdedVertex}
 use Rattle.peel_rules.specs.declared.report.StuckReport.{StuckReport}
-use mathlib.Core.Path.{refl, ap, sym, ◌∙◌}
-use native.Mathlib.Omega.{arith}
+use mathlib.Core.Path.{ap}
 use borrow.Author.Rules.{rules}
 use Rattle.peel_gates.proofs.ends.crowded.Statement.{statement}
 use Rattle.peel_gates.proofs.ends.crowded.Tie as tie

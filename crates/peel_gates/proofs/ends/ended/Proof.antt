@@ -1,9 +1,7 @@
 use borrow.Author.Tests.{lt-ltb, le-ltb}
-use Rattle.answers.specs.declared.Answer.TheVariants.{Solved, CrowdedVertex, Stuck}
-use Rattle.peel_gates.specs.declared.ends.Peeling.{Peeling}
+use Rattle.answers.specs.declared.Answer.TheVariants.{Solved, Stuck}
 use Rattle.peel_rules.specs.declared.report.StuckReport.{StuckReport}
-use mathlib.Core.Path.{refl, ap, sym, ◌∙◌}
-use native.Mathlib.Omega.{arith}
+use mathlib.Core.Path.{ap}
 use borrow.Author.Rules.{rules}
 use Rattle.peel_gates.proofs.ends.ended.Statement.{statement}
 use Rattle.peel_gates.proofs.ends.ended.Tie as tie

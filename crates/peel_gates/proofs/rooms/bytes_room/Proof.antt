@@ -1,4 +1,3 @@
-use native.Mathlib.Omega.{arith}
 use borrow.Author.Rules.{rules}
 use Rattle.peel_gates.proofs.rooms.bytes_room.Statement.{statement}
 use Rattle.peel_gates.proofs.rooms.bytes_room.Tie as tie

@@ -1,6 +1,5 @@
 use Rattle.peel_gates.proofs.RoomLaws.{zeroed_cleared}
-use mathlib.Core.Path.{refl, ap, sym, ◌∙◌}
-use native.Mathlib.Omega.{arith}
+use mathlib.Core.Path.{◌∙◌}
 use borrow.Author.Rules.{rules}
 use Rattle.peel_gates.proofs.rooms.clear_room.Statement.{statement}
 use Rattle.peel_gates.proofs.rooms.clear_room.Tie as tie

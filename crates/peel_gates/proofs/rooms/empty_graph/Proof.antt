@@ -1,6 +1,5 @@
 use Rattle.peel_gates.proofs.RoomLaws.{zeroed_cleared}
-use mathlib.Core.Path.{refl, ap, sym, ◌∙◌}
-use native.Mathlib.Omega.{arith}
+use mathlib.Core.Path.{refl, ◌∙◌}
 use borrow.Author.Rules.{rules}
 use Rattle.peel_gates.proofs.rooms.empty_graph.Statement.{statement}
 use Rattle.peel_gates.proofs.rooms.empty_graph.Tie as tie

@@ -1,11 +1,8 @@
-use Rattle.peel_gates.specs.declared.rules.Gate.{Gate}
 use mathlib.Core.Bool.{true, false}
 use borrow.Author.Tests.{le-leb, lt-leb, lt-ltb, le-ltb, eq-eqb, ne_eqb}
-use Rattle.answers.specs.declared.Answer.TheVariants.{Solved, TooLarge, BadEntry, WrongSolution, ShortArea, CrowdedVertex, Stuck}
-use Rattle.peel_gates.specs.declared.ends.Peeling.{Peeling}
+use Rattle.answers.specs.declared.Answer.TheVariants.{Solved}
 use Rattle.peel_rules.specs.declared.report.StuckReport.{StuckReport}
-use mathlib.Core.Path.{refl, ap, sym, ◌∙◌}
-use native.Mathlib.Omega.{arith}
+use mathlib.Core.Path.{ap}
 use borrow.Author.Rules.{rules}
 use Rattle.peel_gates.proofs.rules.judge.Statement.{statement}
 use Rattle.peel_gates.proofs.rules.judge.Tie as tie

@@ -1,10 +1,6 @@
-use Rattle.peel_gates.specs.declared.rules.Gate.{Gate}
-use mathlib.Core.Bool.{true, false}
-use Rattle.answers.specs.declared.Answer.TheVariants.{Solved, TooLarge, BadEntry, WrongSolution, ShortArea, CrowdedVertex, Stuck}
-use Rattle.peel_gates.specs.declared.ends.Peeling.{Peeling}
+use mathlib.Core.Bool.{false}
 use Rattle.peel_rules.specs.declared.report.StuckReport.{StuckReport}
-use mathlib.Core.Path.{refl, ap, sym, ◌∙◌}
-use native.Mathlib.Omega.{arith}
+use mathlib.Core.Path.{ap}
 use borrow.Author.Rules.{rules}
 use Rattle.peel_gates.proofs.rules.shut.Statement.{statement}
 use Rattle.peel_gates.proofs.rules.shut.Tie as tie

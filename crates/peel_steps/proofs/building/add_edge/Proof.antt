@@ -1,5 +1,4 @@
 use Rattle.peel_steps.proofs.BuildLaws.{edge_added, edge_noted, none_noted}
-use native.Mathlib.Omega.{arith}
 use borrow.Author.Rules.{rules}
 use Rattle.peel_steps.proofs.building.add_edge.Statement.{statement}
 use Rattle.peel_steps.proofs.building.add_edge.Tie as tie

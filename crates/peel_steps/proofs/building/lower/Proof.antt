@@ -1,5 +1,4 @@
 use Rattle.peel_steps.proofs.BuildLaws.{lower_here, lower_before}
-use native.Mathlib.Omega.{arith}
 use borrow.Author.Rules.{rules}
 use Rattle.peel_steps.proofs.building.lower.Statement.{statement}
 use Rattle.peel_steps.proofs.building.lower.Tie as tie
@@ -10,14 +9,14 @@ use Rattle.peel_steps.proofs.index.wide.Reads as wide-reads
 wide_requires : tie.Need-wide-i-requires
 wide_requires c κs = search rules
 
-returns : tie.Need-returns-then-i-low
-returns c = lower_here _ _ c.if-over.true c.wide-i.ensures c.if-i-low.true
-
-returns_2 : tie.Need-returns-else-i-low
-returns_2 c = lower_before _ _ c.if-over.true c.wide-i.ensures c.if-i-low.false
-
-returns_3 : tie.Need-returns-else-over
-returns_3 c = rw c.if-over.false
+returns : tie.Need-returns-else-over
+returns c = rw c.if-over.false
 
 pub lower_spec : {M : Type 1} → statement M
-lower_spec = tie.close (tie.spec wide_requires returns returns_2 returns_3)
+lower_spec =
+    tie.close
+    (tie.spec
+    wide_requires
+    (λ c. lower_here _ _ c.if-over.true c.wide-i.ensures (search rules))  -- returns-then
+    (λ c. lower_before _ _ c.if-over.true c.wide-i.ensures (search rules))  -- returns-else
+    returns)

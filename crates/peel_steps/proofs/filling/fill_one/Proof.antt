@@ -1,6 +1,4 @@
 use Rattle.peel_steps.proofs.SideLaws.{pivot_in, first_in, second_in, filled}
-use mathlib.Core.Path.{sym}
-use native.Mathlib.Omega.{arith}
 use borrow.Author.Rules.{rules}
 use Rattle.peel_steps.proofs.filling.fill_one.Statement.{statement}
 use Rattle.peel_steps.proofs.filling.fill_one.Tie as tie

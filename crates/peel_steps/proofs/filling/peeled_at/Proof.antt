@@ -1,7 +1,4 @@
 use Rattle.peel_steps.proofs.ReadLaws.{reads_high, reads_low}
-use mathlib.Core.Path.{refl, ap, sym, ◌∙◌}
-use borrow.Author.Rules.{rules}
-use native.Mathlib.Omega.{arith}
 use Rattle.peel_steps.proofs.filling.peeled_at.Statement.{statement}
 use Rattle.peel_steps.proofs.filling.peeled_at.Tie as tie
 use Rattle.peel_steps.proofs.filling.peeled_at.Reads as reads

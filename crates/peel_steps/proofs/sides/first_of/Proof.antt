@@ -1,7 +1,5 @@
 use Rattle.peel_steps.proofs.SideLaws.{at_zero, not_zero}
 use mathlib.Core.Path.{sym}
-use borrow.Author.Rules.{rules}
-use native.Mathlib.Omega.{arith}
 use Rattle.peel_steps.proofs.sides.first_of.Statement.{statement}
 use Rattle.peel_steps.proofs.sides.first_of.Tie as tie
 use Rattle.peel_steps.proofs.sides.first_of.Reads as reads

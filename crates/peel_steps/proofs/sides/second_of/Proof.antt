@@ -1,7 +1,5 @@
 use Rattle.peel_steps.proofs.SideLaws.{below_two, from_two}
 use mathlib.Core.Path.{sym}
-use borrow.Author.Rules.{rules}
-use native.Mathlib.Omega.{arith}
 use Rattle.peel_steps.proofs.sides.second_of.Statement.{statement}
 use Rattle.peel_steps.proofs.sides.second_of.Tie as tie
 use Rattle.peel_steps.proofs.sides.second_of.Reads as reads

@@ -1,8 +1,6 @@
 use Rattle.peel_steps.proofs.SideLaws.{below_two, from_two}
 use mathlib.Core.Path.{sym}
 use Rattle.peel_rules.specs.Machine.{no_edge}
-use borrow.Author.Rules.{rules}
-use native.Mathlib.Omega.{arith}
 use Rattle.peel_steps.proofs.sides.second_side.Statement.{statement}
 use Rattle.peel_steps.proofs.sides.second_side.Tie as tie
 use Rattle.peel_steps.proofs.sides.second_side.Reads as reads

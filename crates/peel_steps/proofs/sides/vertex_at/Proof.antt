@@ -1,7 +1,5 @@
 use Rattle.peel_steps.proofs.SideLaws.{at_zero, pivot_one, pivot_two}
 use mathlib.Core.Path.{sym}
-use borrow.Author.Rules.{rules}
-use native.Mathlib.Omega.{arith}
 use Rattle.peel_steps.proofs.sides.vertex_at.Statement.{statement}
 use Rattle.peel_steps.proofs.sides.vertex_at.Tie as tie
 use Rattle.peel_steps.proofs.sides.vertex_at.Reads as reads

@@ -1,6 +1,5 @@
 use Rattle.peel_turns.proofs.StepLaws.{keeps_high, keeps_low}
-use mathlib.Core.Path.{refl, ap, sym, ◌∙◌}
-use native.Mathlib.Omega.{arith}
+use mathlib.Core.Path.{refl}
 use borrow.Author.Rules.{rules}
 use Rattle.peel_turns.proofs.visiting.keep.Statement.{statement}
 use Rattle.peel_turns.proofs.visiting.keep.Tie as tie

@@ -1,5 +1,4 @@
 use Rattle.peel_turns.proofs.StepLaws.{next_none, next_idle, next_busy}
-use mathlib.Core.Path.{refl, ap, sym, ◌∙◌}
 use native.Mathlib.Omega.{arith}
 use borrow.Author.Rules.{rules}
 use Rattle.peel_turns.proofs.visiting.next_edge.Statement.{statement}

@@ -1,8 +1,7 @@
-use mathlib.Core.Path.{refl, ap, sym, ◌∙◌}
+use mathlib.Core.Path.{refl}
 use Prim.Native.Nat.{◌-◌}
 use Rattle.peel_turns.proofs.StepLaws.{Preloading, preloading_begin, preloading_turn, preloading_end, preloaded_tops}
 use borrow.Author.Rules.{rules}
-use native.Mathlib.Omega.{arith}
 use Rattle.peel_turns.proofs.visiting.preload.Statement.{statement}
 use Rattle.peel_turns.proofs.visiting.preload.Tie as tie
 use Rattle.peel_turns.proofs.visiting.preload.Reads as reads

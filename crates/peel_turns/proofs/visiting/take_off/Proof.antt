@@ -1,8 +1,4 @@
-use lib.Dec.{eqb}
-use Prim.Native.Nat.{ℕ}
-use mathlib.Core.Path.{refl, ap}
 use Rattle.peel_turns.proofs.PictureLaws.{first_visits, second_visits, taken_off}
-use native.Mathlib.Omega.{arith}
 use borrow.Author.Rules.{rules}
 use Rattle.peel_turns.proofs.visiting.take_off.Statement.{statement}
 use Rattle.peel_turns.proofs.visiting.take_off.Tie as tie

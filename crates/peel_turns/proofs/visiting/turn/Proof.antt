@@ -1,5 +1,4 @@
 use Rattle.peel_turns.proofs.StepLaws.{turn_v, skipped_turn, busy_keeps, turn_takes, turn_tops, took_turn, long₂, long_b₂}
-use mathlib.Core.Path.{refl, ap, sym, ◌∙◌}
 use native.Mathlib.Omega.{arith}
 use borrow.Author.Rules.{rules}
 use Rattle.peel_turns.proofs.visiting.turn.Statement.{statement}

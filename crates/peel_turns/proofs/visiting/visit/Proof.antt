@@ -1,8 +1,7 @@
 use lib.Dec.{eqb}
 use Prim.Native.Nat.{ℕ}
-use mathlib.Core.Path.{refl, ap}
+use mathlib.Core.Path.{ap}
 use Rattle.peel_turns.proofs.PictureLaws.{visited}
-use native.Mathlib.Omega.{arith}
 use borrow.Author.Rules.{rules}
 use Rattle.peel_turns.proofs.visiting.visit.Statement.{statement}
 use Rattle.peel_turns.proofs.visiting.visit.Tie as tie

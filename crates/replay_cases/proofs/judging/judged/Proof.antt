@@ -1,7 +1,6 @@
 use mathlib.Core.Path.{ap, ◌∙◌}
 use Prim.Native.Nat.{ℕ}
 use borrow.Author.Rules.{rules}
-use borrow.Author.Tests.{not-true, not-false}
 use Rattle.lent_cells.specs.Cells.{left_cells}
 use Rattle.replay_cases.proofs.Ladder.{first_no, second_no, third_no, fourth_decides}
 use Rattle.replay_cases.proofs.judging.judged.Statement.{statement}

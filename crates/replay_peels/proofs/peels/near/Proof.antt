@@ -5,7 +5,7 @@ use Rattle.peel_rules.proofs.Counts.{count_exact}
 use Rattle.replay_peels.proofs.peels.near.Statement.{statement}
 use Rattle.replay_peels.proofs.peels.near.Tie as tie
 
-int_to_float_off : tie.Need-int-to-float-off
+int_to_float_off : tie.Need-int_to_float-off
 int_to_float_off c = count_exact _ (omega arith)
 
 pub near_spec : {M : Type 1} → statement M

@@ -3,10 +3,10 @@ use borrow.Author.Rules.{rules}
 use Rattle.replay_peels.proofs.peels.peel_ways.Statement.{statement}
 use Rattle.replay_peels.proofs.peels.peel_ways.Tie as tie
 
-abbrev invariant_loop : tie.invariant-loop
+abbrev invariant_loop : tie.invariant-loop-way
 invariant_loop high table m n said logged found way₀ way = Unit {0}
 
-abbrev decreases_loop : tie.decreases-loop
+abbrev decreases_loop : tie.decreases-loop-way
 decreases_loop high table m n said logged found way₀ way = 5 - way
 
 pub peel_ways_spec : {M : Type 1} → statement M

@@ -3,10 +3,10 @@ use borrow.Author.Rules.{rules}
 use Rattle.replay_peels.proofs.peels.table_of.Statement.{statement}
 use Rattle.replay_peels.proofs.peels.table_of.Tie as tie
 
-abbrev invariant_loop : tie.invariant-loop
+abbrev invariant_loop : tie.invariant-loop-i
 invariant_loop vertices values table₀ i₀ table i = i ≤ 256
 
-abbrev decreases_loop : tie.decreases-loop
+abbrev decreases_loop : tie.decreases-loop-i
 decreases_loop vertices values table₀ i₀ table i = 256 - i
 
 pub table_of_spec : {M : Type 1} → statement M

@@ -1,6 +1,5 @@
 -- The invariant is `ClearingAbove`, whose laws answer the needs.
 use Prim.Native.Nat.{◌-◌}
-use native.Mathlib.Omega.{arith}
 use borrow.Author.Rules.{rules}
 use Rattle.dense_rows.proofs.BitTest.{column_of}
 use Rattle.slow_dense.proofs.ClearingAbove.{ClearingAbove, above_begin, above_place, above_skip, above_turn, above_end}

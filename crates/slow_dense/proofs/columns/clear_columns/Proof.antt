@@ -1,7 +1,6 @@
 -- The invariant is `ClearingColumns`, whose laws answer the needs.
-use mathlib.Core.Path.{◌≡◌, sym, ◌∙◌}
-use Prim.Native.Nat.{◌-◌, ◌<◌, ◌≤◌}
-use native.Mathlib.Omega.{arith}
+use mathlib.Core.Path.{sym, ◌∙◌}
+use Prim.Native.Nat.{◌-◌}
 use borrow.Author.Rules.{rules}
 use Rattle.slow_dense.proofs.ClearingColumns.{ClearingColumns, columns_begin, columns_place, columns_skip, columns_turn, columns_end}
 use Rattle.slow_dense.proofs.columns.clear_columns.Statement.{statement}

@@ -1,6 +1,6 @@
 -- The first i rows are the first i equations, and the others have no variables.
 use mathlib.Core.Path.{◌≡◌, refl}
-use Prim.Native.Nat.{ℕ, ◌+◌, ◌-◌, ◌≤◌}
+use Prim.Native.Nat.{◌+◌, ◌-◌}
 use lib.ListN.{length, drop}
 use Rattle.answers.specs.Sizes.{row_numbers, row_words}
 use Rattle.system.specs.System.{equations}

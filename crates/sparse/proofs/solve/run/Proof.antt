@@ -1,6 +1,4 @@
 -- Load, solve, clear: the rooms are zero whatever came of it.
-use Prim.Native.Nat.{ℕ, ◌≤◌}
-use native.Mathlib.Nat.{le_refl}
 use Rattle.rows.proofs.Holding.{held}
 use Rattle.sparse.proofs.Running.{run_refused, run_solved}
 use native.Mathlib.Omega.{arith}

@@ -1,5 +1,5 @@
 -- The rows from i on hold an unsolvable one exactly where the rows do.
-use Prim.Native.Nat.{ℕ, ◌-◌}
+use Prim.Native.Nat.{◌-◌}
 use Rattle.rows.specs.Picture.{rows_of}
 use Rattle.sparse_rows.proofs.Backward.{Checking, checking_begin, checking_turn, checking_stop, checking_end}
 use borrow.Author.Rules.{rules}

@@ -1,6 +1,4 @@
 -- A row that no values meet, or the values from the last row to the first.
-use mathlib.Core.Path.{◌≡◌, ◌∙◌, ap}
-use lib.ListN.{length, length-replicate}
 use Rattle.sparse_rows.proofs.Solving.{finish_stop, zeros_all, finish_done}
 use borrow.Author.Rules.{rules}
 use Rattle.sparse_rows.proofs.back.finish_rows.Statement.{statement}

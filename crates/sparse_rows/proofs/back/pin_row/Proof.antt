@@ -1,12 +1,8 @@
 -- The first variable of a row that is not empty gets the value that meets the row.
-use Prim.Native.Nat.{ℕ, ◌+◌, ◌*◌, ◌-◌}
-use native.Mathlib.Nat.{add-sub_cancel_left}
-use lib.ListN.{length, get_or, take, drop}
-use mathlib.Core.Path.{◌≡◌, refl, sym, ap, ◌∙◌, subst}
-use mathlib.Core.List.{List}
+use Prim.Native.Nat.{◌+◌, ◌*◌, ◌-◌}
 use Rattle.sparse_rows.proofs.Backward.{row_fits, pin_skip, pin_listed, pin_place, pin_done}
 use Rattle.sparse_rows.proofs.Forward.{first_in}
-use borrow.Author.Rules.{rules, scaled_Fits}
+use borrow.Author.Rules.{rules}
 use native.Mathlib.Omega.{arith}
 use borrow.Author.Rules.{rules}
 use Rattle.sparse_rows.proofs.back.pin_row.Statement.{statement}

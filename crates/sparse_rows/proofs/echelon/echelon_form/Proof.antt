@@ -1,6 +1,6 @@
 -- What is left of the outer rows gives what the whole gives, and cancels what the whole cancels less what is counted.
 use mathlib.Core.Path.{◌≡◌, refl}
-use Prim.Native.Nat.{ℕ, ◌+◌, ◌-◌, ◌≤◌}
+use Prim.Native.Nat.{◌-◌, ◌≤◌}
 use lib.ListN.{length, take, drop}
 use Rattle.answers.specs.Sizes.{row_numbers, row_words}
 use Rattle.rows.specs.Picture.{rows_of}

@@ -1,6 +1,6 @@
 -- Row i passes some rows, meets one, and so on: what is left of its round gives what all of it gives, and cancels what all of it cancels less what fell away.
 use mathlib.Core.Path.{◌≡◌, refl, ◌∙◌}
-use Prim.Native.Nat.{ℕ, ◌-◌}
+use Prim.Native.Nat.{◌-◌}
 use lib.ListN.{length}
 use Rattle.rows.proofs.Holding.{held}
 use Rattle.sparse_rows.specs.Reduce.{Passes}
@@ -49,7 +49,7 @@ outer_row_spec =
     (λ c. let s = c in let r = round_passed (round_passed (round_begin s.requires.0 s.requires.1 s.requires.2 c.if-numbers-m-eq0.false) c.pass_rows-j.ensures.0) c.loop-j.invariant.0 in (round_identity r c.loop-j-test.true c.meet_rows-e.ensures.0 c.in-Identity.is, fallen_last c.loop-j.invariant.3 _ c.meet_rows-e.ensures.1 (ahead_identity (held c.loop-j.invariant.0.stands.drawn) c.loop-j.invariant.0.stands.i_below c.loop-j-test.true s.requires.2 c.meet_rows-e.ensures.0 c.in-Identity.is) (c.pass_rows-j.ensures.1 ∙ round_whole s.requires.0 s.requires.1 s.requires.2 c.if-numbers-m-eq0.false)))  -- returns-4
     (λ c. search rules)  -- enum-told-3
     (λ c. search rules)  -- add-pass-rows-2
-    (λ c κs. let t = stands_turn c.loop-j.invariant.0.stands c.loop-j-test.true c.meet_rows-e.ensures.0 c.in-Both.is in (held t.drawn, t.i_below, t.j_in, t.d_in, stands_filled t))  -- pass-rows-requires-2
+    (λ c κs. let t = stands_turn c.loop-j.invariant.0.stands c.loop-j-test.true c.meet_rows-e.ensures.0 (search rules) in (held t.drawn, t.i_below, t.j_in, t.d_in, stands_filled t))  -- pass-rows-requires-2
     (λ c. let f = c.pass_rows-j-in-Both.ensures.0.from in search rules)  -- loop-less
     (λ c. (passes_turn c.loop-j.invariant.0 c.loop-j-test.true c.meet_rows-e.ensures.0 c.in-Both.is c.pass_rows-j-in-Both.ensures.0, search rules, search rules, fallen_same (fallen_turn c.loop-j.invariant.3 _ c.meet_rows-e.ensures.1 (ahead_turn (held c.loop-j.invariant.0.stands.drawn) c.loop-j.invariant.0.stands.i_below c.loop-j-test.true c.loop-j.invariant.0.stands.d_in c.meet_rows-e.ensures.0 c.in-Both.is)) c.pass_rows-j-in-Both.ensures.1))  -- loop-again
     (λ c. search rules)  -- enum-told-4

@@ -1,6 +1,6 @@
 -- What is left of the loop over the later rows gives what the whole gives; u is the number that row i begins with.
 use mathlib.Core.Path.{◌≡◌, refl, ◌∙◌}
-use Prim.Native.Nat.{ℕ, ◌-◌}
+use Prim.Native.Nat.{◌-◌}
 use lib.ListN.{length}
 use Rattle.sparse_rows.proofs.Forward.{row_in}
 use Rattle.sparse_rows.proofs.Passing.{Passing, passing_begin, passing_held, k_in, passing_in, passing_above, passing_swap, passing_same, passing_empty, passing_end}
@@ -21,12 +21,12 @@ passed c =
     let s = c.loop-k.invariant in
     let h = c.loop-k-test.true in
     elim c.if-v-u.branch [
-      then-v-u+else-v-u-2+else-numbers-lens-eq0 w ↦
-      rw (w.numbers-is, w.words-is, w.u-is) (
-        passing_swap s.0 h (omega (arith, w.if-v-u.true, w.if-v-u-2.false)) w.if-numbers-lens-eq0.false w.swap_rows.ensures,
-        w.numbers-1.given ∙ s.1,
-        w.words-1.given ∙ s.2,
-      )
+      | then-v-u+else-v-u-2+else-numbers-lens-eq0 w ↦
+          rw (w.numbers-is, w.words-is, w.u-is) (
+            passing_swap s.0 h (omega (arith, w.if-v-u.true, w.if-v-u-2.false)) w.if-numbers-lens-eq0.false w.swap_rows.ensures,
+            w.numbers-1.given ∙ s.1,
+            w.words-1.given ∙ s.2,
+          )
       | else-v-u w ↦ rw (w.numbers-is, w.words-is, w.u-is) (passing_above s.0 h w.if-v-u.false, s.1, s.2)
     ]
 

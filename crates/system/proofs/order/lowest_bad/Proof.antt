@@ -3,7 +3,6 @@ use mathlib.Core.Path.{sym, ◌∙◌}
 use Prim.Native.Nat.{◌+◌, ◌-◌}
 use native.Mathlib.Omega.{arith}
 use borrow.Author.Rules.{rules}
-use borrow.Author.Tests.{not-true, not-false}
 use Rattle.system.proofs.Lowest.{Passed, passed_begin, passed_read, passed_turn, passed_stop, passed_end}
 use Rattle.system.proofs.order.lowest_bad.Statement.{statement}
 use Rattle.system.proofs.order.lowest_bad.Tie as tie

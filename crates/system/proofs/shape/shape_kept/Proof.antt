@@ -1,7 +1,6 @@
 -- Each return is the definition at the tests that led there.
 use mathlib.Core.Path.{sym, ◌∙◌}
 use borrow.Author.Rules.{rules}
-use borrow.Author.Tests.{not-true, not-false}
 use Rattle.system.specs.System.{shape_kept}
 use Rattle.system.proofs.shape.shape_kept.Statement.{statement}
 use Rattle.system.proofs.shape.shape_kept.Tie as tie

@@ -1,8 +1,5 @@
-use mathlib.Core.Path.{◌≡◌}
-use Prim.Native.Nat.{◌+◌, ◌-◌, ◌*◌, ◌≤◌, ◌<◌}
-use lib.ListN.{length}
+use Prim.Native.Nat.{◌-◌, ◌≤◌}
 use borrow.Author.Rules.{rules}
-use native.Mathlib.Omega.{arith}
 use Rattle.workbench_runs.proofs.print.row_lines.Statement.{statement}
 use Rattle.workbench_runs.proofs.print.row_lines.Tie as tie
 use Rattle.workbench_runs.proofs.print.row_lines.Reads as reads

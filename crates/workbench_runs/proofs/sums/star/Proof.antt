@@ -1,8 +1,7 @@
 use mathlib.Core.Path.{◌≡◌}
-use Prim.Native.Nat.{◌+◌, ◌-◌, ◌*◌, ◌≤◌, ◌<◌}
+use Prim.Native.Nat.{◌-◌, ◌≤◌}
 use lib.ListN.{length}
 use borrow.Author.Rules.{rules}
-use native.Mathlib.Omega.{arith}
 use Rattle.workbench_runs.proofs.sums.star.Statement.{statement}
 use Rattle.workbench_runs.proofs.sums.star.Tie as tie
 use Rattle.workbench_runs.proofs.sums.star.Reads as reads
