@@ -89,12 +89,22 @@ system_spec =
     draw_plant_requires
     draw_span_requires
     row_words_requires
+    slice_aggregate_draw_equations
+    slice_aggregate_draw_equations_2
+    slice_aggregate_draw_equations_3
+    slice_aggregate_draw_equations_4
+    slice_aggregate_draw_equations_5
     draw_equations_requires
     below_requires
+    slice_aggregate_spoil_unless
     spoil_unless_requires
     add_ends
     array_share_prefix_starts
+    slice_aggregate_compare
     array_share_prefix_vars
+    slice_aggregate_compare_2
     array_share_prefix_constants
+    slice_aggregate_compare_3
+    slice_aggregate_compare_4
     compare_requires
     returns)

@@ -62,6 +62,9 @@ crowd_spec =
     add_n
     star_requires
     array_borrow_prefix_solution
+    slice_aggregate_peel_low_of
+    slice_aggregate_peel_low_of_2
+    slice_aggregate_peel_low_of_3
     peel_low_of_requires
     text_requires
     number_requires

@@ -97,7 +97,12 @@ dense_sum_spec =
     shl_rows
     mul_rows
     array_write_rows
+    slice_aggregate_dense_gaussian_elimination
+    (λ c. search rules)
     array_borrow_prefix_solution
+    (λ c. search rules)
+    (λ c. search rules)
+    (λ c. search rules)
     dense_gaussian_elimination_requires
     text_requires
     number_requires
