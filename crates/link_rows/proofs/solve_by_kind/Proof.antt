@@ -4,15 +4,10 @@ use Rattle.answers.proofs.Told.{tells_answer}
 use Rattle.link_rows.proofs.solve_by_kind.Statement.{statement}
 use Rattle.link_rows.proofs.solve_by_kind.Tie as tie
 
-returns : tie.Need-returns-then-kind-eq-LAZY
+returns : tie.Need-returns
 returns c =
-    let e = c.lazy_gaussian_elimination-built.ensures in
-    rw (lazy_solver c.args.kind c.if-kind-eq-LAZY.true) (tells_answer e.0, e.0.solution_is)
-
-returns_2 : tie.Need-returns
-returns_2 c =
     let e = c.gaussian_elimination-built.ensures in
-    rw (sparse_solver c.args.kind c.if-kind-eq-LAZY.false) (tells_answer e.0, e.0.solution_is)
+    rw (sparse_solver c.args.kind (search rules)) (tells_answer e.0, e.0.solution_is)
 
 pub solve_by_kind_spec : {M : Type 1} → statement M
 solve_by_kind_spec =
@@ -22,9 +17,11 @@ solve_by_kind_spec =
     (λ c. search rules)  -- same-length
     (λ c. search rules)  -- same-length-2
     (λ c. search rules)  -- same-length-3
-    returns
+    (λ c.
+    let e = c.lazy_gaussian_elimination-built.ensures in
+    rw (lazy_solver c.args.kind (search rules)) (tells_answer e.0, e.0.solution_is))  -- returns-then
     (λ c κs. search rules)  -- gaussian-elimination-requires
     (λ c. search rules)  -- same-length-4
     (λ c. search rules)  -- same-length-5
     (λ c. search rules)  -- same-length-6
-    returns_2)
+    returns)
