@@ -2,10 +2,10 @@ use Rattle.std.proofs.Common.{◌≡◌, length, rules}
 use Rattle.replay.proofs.replay_all.Statement.{statement}
 use Rattle.replay.proofs.replay_all.Tie as tie
 
-abbrev invariant_loop : tie.invariant-loop
+abbrev invariant_loop : tie.invariant-loop-turns
 invariant_loop counts₀ turns₀ counts turns = length counts ≡ length counts₀
 
-abbrev decreases_loop : tie.decreases-loop
+abbrev decreases_loop : tie.decreases-loop-turns
 decreases_loop counts₀ turns₀ counts turns = turns
 
 pub replay_all_spec : {M : Type 1} → statement M

@@ -2,10 +2,10 @@ use Rattle.std.proofs.Common.{◌-◌, ◌≤◌, rules}
 use Rattle.replay.proofs.counts.of_all.Statement.{statement}
 use Rattle.replay.proofs.counts.of_all.Tie as tie
 
-abbrev invariant_loop : tie.invariant-loop
+abbrev invariant_loop : tie.invariant-loop-kind
 invariant_loop counts place sum₀ kind₀ sum kind = kind ≤ 11
 
-abbrev decreases_loop : tie.decreases-loop
+abbrev decreases_loop : tie.decreases-loop-kind
 decreases_loop counts place sum₀ kind₀ sum kind = 11 - kind
 
 pub of_all_spec : {M : Type 1} → statement M

@@ -6,28 +6,28 @@ use Rattle.workbench_runs.proofs.runs.graphs.Reads as reads
 use Rattle.workbench_runs.proofs.runs.graphs.Lts as lts
 use Rattle.workbench_runs.proofs.runs.graph.Reads as graph-reads
 
-abbrev invariant_loop : tie.invariant-loop
+abbrev invariant_loop : tie.invariant-loop-k
 invariant_loop tally₀ seed₀ k₀ tally seed k = k ≤ 1490
 
-abbrev decreases_loop : tie.decreases-loop
+abbrev decreases_loop : tie.decreases-loop-k
 decreases_loop tally₀ seed₀ k₀ tally seed k = 1490 - k
 
-loop_holds : tie.Need-loop-init invariant_loop decreases_loop
+loop_holds : tie.Need-loop-k-init invariant_loop decreases_loop
 loop_holds c = search rules
 
-add_graph : tie.Need-overflow-add-graph invariant_loop decreases_loop
+add_graph : tie.Need-overflow_add-k invariant_loop decreases_loop
 add_graph c = search rules
 
 graph_requires : tie.Need-graph-requires invariant_loop decreases_loop
 graph_requires c κs = search rules
 
-add_k : tie.Need-overflow-add-k invariant_loop decreases_loop
+add_k : tie.Need-overflow_add-k-in-loop-k invariant_loop decreases_loop
 add_k c = search rules
 
-loop_less : tie.Need-loop-smaller invariant_loop decreases_loop
+loop_less : tie.Need-loop-k-smaller invariant_loop decreases_loop
 loop_less c = search rules
 
-loop_again : tie.Need-loop-preserved invariant_loop decreases_loop
+loop_again : tie.Need-loop-k-preserved invariant_loop decreases_loop
 loop_again c = search rules
 
 returns : tie.Need-returns invariant_loop decreases_loop

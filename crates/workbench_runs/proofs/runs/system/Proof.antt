@@ -16,68 +16,68 @@ use Rattle.workbench_runs.proofs.runs.draw_span.Reads as draw-span-reads
 use Rattle.workbench_runs.proofs.runs.row_words.Reads as row-words-reads
 use Rattle.workbench_runs.proofs.runs.spoil_unless.Reads as spoil-unless-reads
 
-draw_plant_requires : tie.Need-draw-plant-requires
+draw_plant_requires : tie.Need-draw_plant-values-requires
 draw_plant_requires c κs = search rules
 
-draw_span_requires : tie.Need-draw-span-requires
+draw_span_requires : tie.Need-draw_span-span-requires
 draw_span_requires c κs = search rules
 
-row_words_requires : tie.Need-row-words-requires
+row_words_requires : tie.Need-row_words-w-requires
 row_words_requires c κs = search rules
 
-slice_aggregate_draw_equations : tie.Need-slice-aggregate-draw-equations
+slice_aggregate_draw_equations : tie.Need-slice_bounds-draw_equations-end
 slice_aggregate_draw_equations c = search rules
 
-slice_aggregate_draw_equations_2 : tie.Need-slice-aggregate-draw-equations-2
+slice_aggregate_draw_equations_2 : tie.Need-slice_bounds-draw_equations-end-2
 slice_aggregate_draw_equations_2 c = search rules
 
-slice_aggregate_draw_equations_3 : tie.Need-slice-aggregate-draw-equations-3
+slice_aggregate_draw_equations_3 : tie.Need-slice_bounds-draw_equations-end-3
 slice_aggregate_draw_equations_3 c = search rules
 
-slice_aggregate_draw_equations_4 : tie.Need-slice-aggregate-draw-equations-4
+slice_aggregate_draw_equations_4 : tie.Need-slice_bounds-draw_equations-end-4
 slice_aggregate_draw_equations_4 c = search rules
 
-slice_aggregate_draw_equations_5 : tie.Need-slice-aggregate-draw-equations-5
+slice_aggregate_draw_equations_5 : tie.Need-slice_bounds-draw_equations-end-5
 slice_aggregate_draw_equations_5 c = search rules
 
-draw_equations_requires : tie.Need-draw-equations-requires
-draw_equations_requires c κs = let p = c.before.before.before.before.before.before.before.before.before.before.before.requires in let e = c.before.before.before.before.before.before.row_words.ensures in let h = mul-le-mul p.1 e.0 in search rules
+draw_equations_requires : tie.Need-draw_equations-t-requires
+draw_equations_requires c κs = let p = c.requires in let e = c.row_words-w.ensures in let h = mul-le-mul p.1 e.0 in search rules
 
-below_requires : tie.Need-below-requires
+below_requires : tie.Need-below-planted-requires
 below_requires c κs = search rules
 
-slice_aggregate_spoil_unless : tie.Need-slice-aggregate-spoil-unless
+slice_aggregate_spoil_unless : tie.Need-slice_bounds-spoil_unless-end
 slice_aggregate_spoil_unless c = search rules
 
-spoil_unless_requires : tie.Need-spoil-unless-requires
+spoil_unless_requires : tie.Need-spoil_unless-requires
 spoil_unless_requires c κs = search rules
 
-add_ends : tie.Need-overflow-add-ends
+add_ends : tie.Need-overflow_add-ends
 add_ends c = search rules
 
-array_share_prefix_starts : tie.Need-array-share-prefix-starts
-array_share_prefix_starts c = let p = c.before.before.before.before.before.before.before.before.before.before.before.before.before.before.before.before.before.before.before.before.before.before.before.requires in let f = c.before.before.before.before.before.before.before.before.before.before.before.draw-equations.ensures in search rules
+array_share_prefix_starts : tie.Need-slice_bounds-starts-end
+array_share_prefix_starts c = let p = c.requires in let f = c.draw_equations-t.ensures in search rules
 
-slice_aggregate_compare : tie.Need-slice-aggregate-compare
-slice_aggregate_compare c = let p = c.before.before.before.before.before.before.before.before.before.before.before.before.before.before.before.before.before.before.before.before.before.before.before.before.requires in let f = c.before.before.before.before.before.before.before.before.before.before.before.before.draw-equations.ensures in sym (length-take-le _ _ (omega (arith, p.1)))
+slice_aggregate_compare : tie.Need-slice_bounds-compare-end
+slice_aggregate_compare c = let p = c.requires in let f = c.draw_equations-t.ensures in sym (length-take-le _ _ (omega (arith, p.1)))
 
-array_share_prefix_vars : tie.Need-array-share-prefix-vars
-array_share_prefix_vars c = let p = c.before.before.before.before.before.before.before.before.before.before.before.before.before.before.before.before.before.before.before.before.before.before.before.before.requires in let f = c.before.before.before.before.before.before.before.before.before.before.before.before.draw-equations.ensures in search rules
+array_share_prefix_vars : tie.Need-slice_bounds-vars-end
+array_share_prefix_vars c = let p = c.requires in let f = c.draw_equations-t.ensures in search rules
 
-slice_aggregate_compare_2 : tie.Need-slice-aggregate-compare-2
-slice_aggregate_compare_2 c = let p = c.before.before.before.before.before.before.before.before.before.before.before.before.before.before.before.before.before.before.before.before.before.before.before.before.before.requires in let f = c.before.before.before.before.before.before.before.before.before.before.before.before.before.draw-equations.ensures in sym (length-take-le _ _ (omega (arith, f)))
+slice_aggregate_compare_2 : tie.Need-slice_bounds-compare-end-2
+slice_aggregate_compare_2 c = let p = c.requires in let f = c.draw_equations-t.ensures in sym (length-take-le _ _ (omega (arith, f)))
 
-array_share_prefix_constants : tie.Need-array-share-prefix-constants
-array_share_prefix_constants c = let p = c.before.before.before.before.before.before.before.before.before.before.before.before.before.before.before.before.before.before.before.before.before.before.before.before.before.requires in let f = c.before.before.before.before.before.before.before.before.before.before.before.before.before.draw-equations.ensures in search rules
+array_share_prefix_constants : tie.Need-slice_bounds-constants-end
+array_share_prefix_constants c = let p = c.requires in let f = c.draw_equations-t.ensures in search rules
 
-slice_aggregate_compare_3 : tie.Need-slice-aggregate-compare-3
-slice_aggregate_compare_3 c = let p = c.before.before.before.before.before.before.before.before.before.before.before.before.before.before.before.before.before.before.before.before.before.before.before.before.before.before.requires in let f = c.before.before.before.before.before.before.before.before.before.before.before.before.before.before.draw-equations.ensures in sym (length-take-le _ _ (omega (arith, p.1)))
+slice_aggregate_compare_3 : tie.Need-slice_bounds-compare-end-3
+slice_aggregate_compare_3 c = let p = c.requires in let f = c.draw_equations-t.ensures in sym (length-take-le _ _ (omega (arith, p.1)))
 
-slice_aggregate_compare_4 : tie.Need-slice-aggregate-compare-4
+slice_aggregate_compare_4 : tie.Need-slice_bounds-compare-end-4
 slice_aggregate_compare_4 c = search rules
 
 compare_requires : tie.Need-compare-requires
-compare_requires c κs = let p = c.before.before.before.before.before.before.before.before.before.before.before.before.before.before.before.before.before.before.before.before.before.before.before.before.before.before.before.requires in let e = c.before.before.before.before.before.before.before.before.before.before.before.before.before.before.before.before.before.before.before.before.before.before.row_words.ensures in let f = c.before.before.before.before.before.before.before.before.before.before.before.before.before.before.before.draw-equations.ensures in (p.0, p.1, e.0, simp length-take (omega arith))
+compare_requires c κs = let p = c.requires in let e = c.row_words-w.ensures in let f = c.draw_equations-t.ensures in (p.0, p.1, e.0, simp length-take (omega arith))
 
 returns : tie.Need-returns
 returns c = search rules

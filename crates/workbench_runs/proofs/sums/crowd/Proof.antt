@@ -12,32 +12,29 @@ use Rattle.workbench_runs.proofs.print.text.Reads as text-reads
 use Rattle.workbench_runs.proofs.sums.answer_line.Reads as answer-line-reads
 use Rattle.workbench_runs.proofs.sums.star.Reads as star-reads
 
-mul_n : tie.Need-overflow-mul-n
+mul_n : tie.Need-overflow_mul-n
 mul_n c = search rules
 
-add_n : tie.Need-overflow-add-n
+add_n : tie.Need-overflow_add-n
 add_n c = search rules
 
 star_requires : tie.Need-star-requires
 star_requires c κs = search rules
 
-array_borrow_prefix_solution : tie.Need-array-borrow-prefix-solution
+array_borrow_prefix_solution : tie.Need-slice_bounds-solution-end
 array_borrow_prefix_solution c = search rules
 
-slice_aggregate_peel_low_of : tie.Need-slice-aggregate-peel-low-of
+slice_aggregate_peel_low_of : tie.Need-slice_bounds-peel_low_of-end
 slice_aggregate_peel_low_of c = sym (length-take-le _ _ (omega arith))
 
-slice_aggregate_peel_low_of_2 : tie.Need-slice-aggregate-peel-low-of-2
+slice_aggregate_peel_low_of_2 : tie.Need-slice_bounds-peel_low_of-end-2
 slice_aggregate_peel_low_of_2 c = search rules
 
-slice_aggregate_peel_low_of_3 : tie.Need-slice-aggregate-peel-low-of-3
+slice_aggregate_peel_low_of_3 : tie.Need-slice_bounds-peel_low_of-end-3
 slice_aggregate_peel_low_of_3 c = search rules
 
-peel_low_of_requires : tie.Need-peel-low-of-requires
+peel_low_of_requires : tie.Need-peel_low_of-p-requires
 peel_low_of_requires c κs = search rules
-
-slice_aggregate_text : tie.Need-slice-aggregate-text
-slice_aggregate_text c = search rules
 
 text_requires : tie.Need-text-requires
 text_requires c κs = search rules
@@ -45,17 +42,11 @@ text_requires c κs = search rules
 number_requires : tie.Need-number-requires
 number_requires c κs = search rules
 
-slice_aggregate_text_2 : tie.Need-slice-aggregate-text-2
-slice_aggregate_text_2 c = search rules
-
 text_requires_2 : tie.Need-text-requires-2
 text_requires_2 c κs = search rules
 
-answer_line_requires : tie.Need-answer-line-requires
+answer_line_requires : tie.Need-answer_line-requires
 answer_line_requires c κs = search rules
-
-slice_aggregate_text_3 : tie.Need-slice-aggregate-text-3
-slice_aggregate_text_3 c = search rules
 
 text_requires_3 : tie.Need-text-requires-3
 text_requires_3 c κs = search rules
@@ -75,12 +66,9 @@ crowd_spec =
     slice_aggregate_peel_low_of_2
     slice_aggregate_peel_low_of_3
     peel_low_of_requires
-    slice_aggregate_text
     text_requires
     number_requires
-    slice_aggregate_text_2
     text_requires_2
     answer_line_requires
-    slice_aggregate_text_3
     text_requires_3
     returns)

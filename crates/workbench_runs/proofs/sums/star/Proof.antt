@@ -8,34 +8,34 @@ use Rattle.workbench_runs.proofs.sums.star.Reads as reads
 use Rattle.workbench_runs.proofs.sums.star.Lts as lts
 use Rattle.workbench_runs.proofs.sums.ray.Reads as ray-reads
 
-abbrev invariant_loop : tie.invariant-loop
+abbrev invariant_loop : tie.invariant-loop-i
 invariant_loop table₀ i₀ table i = (length table ≡ 256) × (i ≤ 256)
 
-abbrev decreases_loop : tie.decreases-loop
+abbrev decreases_loop : tie.decreases-loop-i
 decreases_loop table₀ i₀ table i = 256 - i
 
-ray_requires : tie.Need-ray-requires invariant_loop decreases_loop
+ray_requires : tie.Need-ray-first-requires invariant_loop decreases_loop
 ray_requires c κs = search rules
 
-loop_holds : tie.Need-loop-init invariant_loop decreases_loop
+loop_holds : tie.Need-loop-i-init invariant_loop decreases_loop
 loop_holds c = search rules
 
-ray_requires_2 : tie.Need-ray-requires-2 invariant_loop decreases_loop
+ray_requires_2 : tie.Need-ray-requires invariant_loop decreases_loop
 ray_requires_2 c κs = search rules
 
-mul_table : tie.Need-overflow-mul-table invariant_loop decreases_loop
+mul_table : tie.Need-offset_bounds-table-i invariant_loop decreases_loop
 mul_table c = search rules
 
-array_set_from_table : tie.Need-array-set-from-table invariant_loop decreases_loop
+array_set_from_table : tie.Need-bounds-table-i invariant_loop decreases_loop
 array_set_from_table c = search rules
 
-add_i : tie.Need-overflow-add-i invariant_loop decreases_loop
+add_i : tie.Need-overflow_add-i invariant_loop decreases_loop
 add_i c = search rules
 
-loop_less : tie.Need-loop-smaller invariant_loop decreases_loop
+loop_less : tie.Need-loop-i-smaller invariant_loop decreases_loop
 loop_less c = search rules
 
-loop_again : tie.Need-loop-preserved invariant_loop decreases_loop
+loop_again : tie.Need-loop-i-preserved invariant_loop decreases_loop
 loop_again c = search rules
 
 returns : tie.Need-returns invariant_loop decreases_loop
