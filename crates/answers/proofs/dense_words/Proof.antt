@@ -8,6 +8,6 @@ pub dense_words_spec : {M : Type 1} → statement M
 dense_words_spec =
     tie.close
     (tie.spec
-    (λ c. let h = row_words_fit c.args.m c.args.w c.requires.0 c.requires.1 in search rules)  -- mul-result
-    (λ c. let h = row_words_fit c.args.m c.args.w c.requires.0 c.requires.1 in search rules)  -- add-result
+    (λ c. let h = row_words_fit c.args.m c.args.w c.requires.0 c.requires.1 in search rules)  -- overflow_mul-result
+    (λ c. let h = row_words_fit c.args.m c.args.w c.requires.0 c.requires.1 in search rules)  -- overflow_add-result
     (λ c. search rules))

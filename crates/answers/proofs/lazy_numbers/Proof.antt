@@ -8,12 +8,12 @@ pub lazy_numbers_spec : {M : Type 1} → statement M
 lazy_numbers_spec =
     tie.close
     (tie.spec
-    (λ c. let h = cells_fit c.args.n c.args.m c.requires.0 c.requires.1 in search rules)  -- mul-result
-    (λ c. let h = cells_fit c.args.n c.args.m c.requires.0 c.requires.1 in search rules)  -- mul-result-2
-    (λ c. let h = cells_fit c.args.n c.args.m c.requires.0 c.requires.1 in search rules)  -- add-result
-    (λ c. let h = cells_fit c.args.n c.args.m c.requires.0 c.requires.1 in search rules)  -- mul-result-3
-    (λ c. let h = cells_fit c.args.n c.args.m c.requires.0 c.requires.1 in search rules)  -- add-result-2
-    (λ c. let h = cells_fit c.args.n c.args.m c.requires.0 c.requires.1 in search rules)  -- mul-result-4
-    (λ c. let h = cells_fit c.args.n c.args.m c.requires.0 c.requires.1 in search rules)  -- add-result-3
-    (λ c. let h = cells_fit c.args.n c.args.m c.requires.0 c.requires.1 in search rules)  -- add-result-4
+    (λ c. let h = cells_fit c.args.n c.args.m c.requires.0 c.requires.1 in search rules)  -- overflow_mul-result
+    (λ c. let h = cells_fit c.args.n c.args.m c.requires.0 c.requires.1 in search rules)  -- overflow_mul-result-2
+    (λ c. let h = cells_fit c.args.n c.args.m c.requires.0 c.requires.1 in search rules)  -- overflow_add-result
+    (λ c. let h = cells_fit c.args.n c.args.m c.requires.0 c.requires.1 in search rules)  -- overflow_mul-result-3
+    (λ c. let h = cells_fit c.args.n c.args.m c.requires.0 c.requires.1 in search rules)  -- overflow_add-result-2
+    (λ c. let h = cells_fit c.args.n c.args.m c.requires.0 c.requires.1 in search rules)  -- overflow_mul-result-4
+    (λ c. let h = cells_fit c.args.n c.args.m c.requires.0 c.requires.1 in search rules)  -- overflow_add-result-3
+    (λ c. let h = cells_fit c.args.n c.args.m c.requires.0 c.requires.1 in search rules)  -- overflow_add-result-4
     (λ c. search rules))

@@ -8,7 +8,7 @@ pub sparse_numbers_spec : {M : Type 1} → statement M
 sparse_numbers_spec =
     tie.close
     (tie.spec
-    (λ c. let h = cells_fit c.args.n c.args.m c.requires.0 c.requires.1 in search rules)  -- mul-result
-    (λ c. let h = cells_fit c.args.n c.args.m c.requires.0 c.requires.1 in search rules)  -- add-result
-    (λ c. let h = cells_fit c.args.n c.args.m c.requires.0 c.requires.1 in search rules)  -- add-result-2
+    (λ c. let h = cells_fit c.args.n c.args.m c.requires.0 c.requires.1 in search rules)  -- overflow_mul-result
+    (λ c. let h = cells_fit c.args.n c.args.m c.requires.0 c.requires.1 in search rules)  -- overflow_add-result
+    (λ c. let h = cells_fit c.args.n c.args.m c.requires.0 c.requires.1 in search rules)  -- overflow_add-result-2
     (λ c. search rules))

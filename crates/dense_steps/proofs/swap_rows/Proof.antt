@@ -8,25 +8,24 @@ use Rattle.dense_steps.proofs.swap_rows.Tie as tie
 
 returns : tie.Need-returns
 returns c =
-    let s = c in
-    let hi : s.args.i < s.args.m = omega (arith, s.requires) in
-    swapped_became s.args.m s.args.w s.args.words.now s.requires.3 s.args.word s.args.i s.args.j s.requires.0 hi s.requires.2 s.requires.1 _ _
+    let hi : c.args.i < c.args.m = omega (arith, c.requires) in
+    swapped_became c.args.m c.args.w c.args.words.now c.requires.3 c.args.word c.args.i c.args.j c.requires.0 hi c.requires.2 c.requires.1 _ _
     c.exchange_words.ensures c.exchange_words-2.ensures
 
 pub swap_rows_spec : {M : Type 1} → statement M
 swap_rows_spec =
     tie.close
     (tie.spec
-    (λ c. let s = c in let h = two_rows s.args.i s.args.j s.args.m s.args.w s.requires.1 s.requires.2 in search rules)  -- mul-exchange-words
-    (λ c. let s = c in let h = two_rows s.args.i s.args.j s.args.m s.args.w s.requires.1 s.requires.2 in search rules)  -- add-exchange-words
-    (λ c. let s = c in let h = two_rows s.args.i s.args.j s.args.m s.args.w s.requires.1 s.requires.2 in search rules)  -- mul-exchange-words-2
-    (λ c. let s = c in let h = two_rows s.args.i s.args.j s.args.m s.args.w s.requires.1 s.requires.2 in search rules)  -- add-exchange-words-2
-    (λ c. search rules)  -- sub-exchange-words
-    (λ c κs. let s = c in let h = two_rows s.args.i s.args.j s.args.m s.args.w s.requires.1 s.requires.2 in search rules)  -- exchange-words-requires
-    (λ c. search rules)  -- mul-exchange-words-3
-    (λ c. search rules)  -- add-exchange-words-3
-    (λ c. search rules)  -- mul-exchange-words-4
-    (λ c. search rules)  -- add-exchange-words-4
-    (λ c κs. search rules)  -- exchange-words-requires-2
-    (λ c. search rules)  -- same-length
+    (λ c. let h = two_rows c.args.i c.args.j c.args.m c.args.w c.requires.1 c.requires.2 in search rules)  -- overflow_mul-i
+    (λ c. let h = two_rows c.args.i c.args.j c.args.m c.args.w c.requires.1 c.requires.2 in search rules)  -- overflow_add-i
+    (λ c. let h = two_rows c.args.i c.args.j c.args.m c.args.w c.requires.1 c.requires.2 in search rules)  -- overflow_mul-j
+    (λ c. let h = two_rows c.args.i c.args.j c.args.m c.args.w c.requires.1 c.requires.2 in search rules)  -- overflow_add-j
+    (λ c. search rules)  -- overflow_sub-w
+    (λ c κs. let h = two_rows c.args.i c.args.j c.args.m c.args.w c.requires.1 c.requires.2 in search rules)  -- exchange_words-requires
+    (λ c. search rules)  -- overflow_mul-m
+    (λ c. search rules)  -- overflow_add-m
+    (λ c. search rules)  -- overflow_mul-m-2
+    (λ c. search rules)  -- overflow_add-m-2
+    (λ c κs. search rules)  -- exchange_words-requires-2
+    (λ c. search rules)  -- shape_of-words
     returns)

@@ -21,7 +21,7 @@ pub take_pivot_spec : {M : Type 1} → statement M
 take_pivot_spec =
     tie.close
     (tie.spec
-    (λ c κs. search rules)  -- swap-rows-requires
-    (λ c κs. let b = brought c.before in search rules)  -- clear-below-requires
-    (λ c. let b = brought c.before.before.before.before in search rules)  -- same-length
+    (λ c κs. search rules)  -- swap_rows-requires
+    (λ c κs. let b = brought c.before in search rules)  -- clear_below-requires
+    (λ c. let b = brought c.before.before.before.before in search rules)  -- shape_of-words
     (λ c. became_then (clear_below c.args.col c.args.rank) (brought c.before.before.before.before) c.clear_below.ensures))

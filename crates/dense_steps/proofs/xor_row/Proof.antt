@@ -8,24 +8,23 @@ use Rattle.dense_steps.proofs.xor_row.Tie as tie
 
 returns : tie.Need-returns
 returns c =
-    let s = c in
-    xored_became s.args.m s.args.w s.args.words.now s.requires.4 s.args.word s.args.i s.args.j s.requires.0 s.requires.1 s.requires.2 s.requires.3 _ _
+    xored_became c.args.m c.args.w c.args.words.now c.requires.4 c.args.word c.args.i c.args.j c.requires.0 c.requires.1 c.requires.2 c.requires.3 _ _
     c.xor_words.ensures c.xor_words-2.ensures
 
 pub xor_row_spec : {M : Type 1} → statement M
 xor_row_spec =
     tie.close
     (tie.spec
-    (λ c. let s = c in let h = rows_within s.args.i s.args.j s.args.m s.args.w s.requires.1 s.requires.2 in search rules)  -- mul-xor-words
-    (λ c. let s = c in let h = rows_within s.args.i s.args.j s.args.m s.args.w s.requires.1 s.requires.2 in search rules)  -- add-xor-words
-    (λ c. let s = c in let h = rows_within s.args.i s.args.j s.args.m s.args.w s.requires.1 s.requires.2 in search rules)  -- mul-xor-words-2
-    (λ c. let s = c in let h = rows_within s.args.i s.args.j s.args.m s.args.w s.requires.1 s.requires.2 in search rules)  -- add-xor-words-2
-    (λ c. search rules)  -- sub-xor-words
-    (λ c κs. let s = c in let h = rows_within s.args.i s.args.j s.args.m s.args.w s.requires.1 s.requires.2 in (apart_rows s.args.i s.args.j s.args.w s.args.word s.requires.3 s.requires.0, omega (arith, s.requires), omega (arith, s.requires)))  -- xor-words-requires
-    (λ c. search rules)  -- mul-xor-words-3
-    (λ c. search rules)  -- add-xor-words-3
-    (λ c. search rules)  -- mul-xor-words-4
-    (λ c. search rules)  -- add-xor-words-4
-    (λ c κs. let s = c in (apart_cells s.args.i s.args.j (s.args.m * s.args.w) s.requires.3, search rules, search rules))  -- xor-words-requires-2
-    (λ c. search rules)  -- same-length
+    (λ c. let h = rows_within c.args.i c.args.j c.args.m c.args.w c.requires.1 c.requires.2 in search rules)  -- overflow_mul-i
+    (λ c. let h = rows_within c.args.i c.args.j c.args.m c.args.w c.requires.1 c.requires.2 in search rules)  -- overflow_add-i
+    (λ c. let h = rows_within c.args.i c.args.j c.args.m c.args.w c.requires.1 c.requires.2 in search rules)  -- overflow_mul-j
+    (λ c. let h = rows_within c.args.i c.args.j c.args.m c.args.w c.requires.1 c.requires.2 in search rules)  -- overflow_add-j
+    (λ c. search rules)  -- overflow_sub-w
+    (λ c κs. let h = rows_within c.args.i c.args.j c.args.m c.args.w c.requires.1 c.requires.2 in (apart_rows c.args.i c.args.j c.args.w c.args.word c.requires.3 c.requires.0, omega (arith, c.requires), omega (arith, c.requires)))  -- xor_words-requires
+    (λ c. search rules)  -- overflow_mul-m
+    (λ c. search rules)  -- overflow_add-m
+    (λ c. search rules)  -- overflow_mul-m-2
+    (λ c. search rules)  -- overflow_add-m-2
+    (λ c κs. (apart_cells c.args.i c.args.j (c.args.m * c.args.w) c.requires.3, search rules, search rules))  -- xor_words-requires-2
+    (λ c. search rules)  -- shape_of-words
     returns)

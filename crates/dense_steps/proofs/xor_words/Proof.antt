@@ -17,16 +17,16 @@ xor_words_spec =
     (tie.spec
     invariant_loop
     decreases_loop
-    (λ c. search (rules, xoring_begin))  -- loop-holds
-    (λ c. search rules)  -- add-words
-    (λ c. search rules)  -- mul-words
-    (λ c. search rules)  -- slice-read-words
-    (λ c. search rules)  -- add-words-2
-    (λ c. search rules)  -- mul-words-2
-    (λ c. search rules)  -- slice-read-words-2
-    (λ c. search rules)  -- slice-write-words
-    (λ c. search rules)  -- add-k
-    (λ c. search rules)  -- loop-less
-    (λ c. search (rules, xoring_turn))  -- loop-again
-    (λ c. search rules)  -- same-length
+    (λ c. search (rules, xoring_begin))  -- loop-k-init
+    (λ c. search rules)  -- overflow_add-words
+    (λ c. search rules)  -- offset_bounds-words-from
+    (λ c. search rules)  -- bounds-words-from
+    (λ c. search rules)  -- overflow_add-words-in-loop-k
+    (λ c. search rules)  -- offset_bounds-words-to
+    (λ c. search rules)  -- bounds-words-to
+    (λ c. search rules)  -- bounds-words-to-in-loop-k
+    (λ c. search rules)  -- overflow_add-k
+    (λ c. search rules)  -- loop-k-smaller
+    (λ c. search (rules, xoring_turn))  -- loop-k-preserved
+    (λ c. search rules)  -- shape_of-words
     (λ c. search (rules, xoring_end)))

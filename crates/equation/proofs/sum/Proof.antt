@@ -46,33 +46,24 @@ returns_2 c = simp (c.refusal-then-right-gt-MAX_SUMMED.ensures, le-leb _ _ c.if-
 returns_3 : tie.Need-returns-then-not-increasing
 unfolding sum_call
 returns_3 c =
-    let i = c in
-    simp (c.refusal-then-not-increasing.ensures, le-leb _ _ i.if-left-gt-MAX_SUMMED.false, le-leb _ _ i.if-right-gt-MAX_SUMMED.false, sym i.increasing.ensures ∙ c.if-not-increasing.true) sum_tells
+    simp (c.refusal-then-not-increasing.ensures, le-leb _ _ c.if-left-gt-MAX_SUMMED.false, le-leb _ _ c.if-right-gt-MAX_SUMMED.false, sym c.increasing.ensures ∙ c.if-not-increasing.true) sum_tells
 
 returns_4 : tie.Need-returns-then-not-increasing-2
 unfolding sum_call
 returns_4 c =
-    let j = c in
-    let i = j in
-    simp (c.refusal-then-not-increasing-2.ensures, le-leb _ _ i.if-left-gt-MAX_SUMMED.false, le-leb _ _ i.if-right-gt-MAX_SUMMED.false, left_rises j.before.before.before, sym j.increasing-2.ensures ∙ c.if-not-increasing-2.true) sum_tells
+    simp (c.refusal-then-not-increasing-2.ensures, le-leb _ _ c.if-left-gt-MAX_SUMMED.false, le-leb _ _ c.if-right-gt-MAX_SUMMED.false, left_rises c.before.before.before, sym c.increasing-2.ensures ∙ c.if-not-increasing-2.true) sum_tells
 
 returns_5 : tie.Need-returns-then-out-left
 unfolding sum_call
 returns_5 c =
-    let e = c in
-    let i = e in
-    simp (c.refusal-then-out-left.ensures, le-leb _ _ i.if-left-gt-MAX_SUMMED.false, le-leb _ _ i.if-right-gt-MAX_SUMMED.false, left_rises e.before.before.before.before, right_rises e.before.before, lt-leb _ _ c.if-out-left.true) sum_tells
+    simp (c.refusal-then-out-left.ensures, le-leb _ _ c.if-left-gt-MAX_SUMMED.false, le-leb _ _ c.if-right-gt-MAX_SUMMED.false, left_rises c.before.before.before.before, right_rises c.before.before, lt-leb _ _ c.if-out-left.true) sum_tells
 
 returns_6 : tie.Need-returns
 unfolding sum_call
 returns_6 c =
-    let z = c in
-    let a = z in
-    let e = a in
-    let i = e in
-    let g = a.add_ptr-len.ensures in
-    let shared = common_half (left a.before.before.before.before.before.before) (right a.before.before.before.before.before.before) _ (rises_increasing _ (left_rises e.before.before.before.before.before.before.before.before.before.before.before)) (rises_increasing _ (right_rises e.before.before.before.before.before.before.before.before.before)) refl in
-    simp (settle_front (sym_diff (left a.before.before.before.before.before.before) (right a.before.before.before.before.before.before)) _ (length (left a.before.before.before.before.before.before) + length (right a.before.before.before.before.before.before)) (omega (arith, sum_short a.before.before.before.before.before.before, a.if-out-left.false)) g.0 g.1 z.zero_numbers.ensures, g.0, shared, le-leb _ _ i.if-left-gt-MAX_SUMMED.false, le-leb _ _ i.if-right-gt-MAX_SUMMED.false, left_rises e.before.before.before.before.before.before.before.before.before.before.before, right_rises e.before.before.before.before.before.before.before.before.before, le-leb _ _ a.if-out-left.false) sum_tells
+    let g = c.add_ptr-len.ensures in
+    let shared = common_half (left c.before.before.before.before.before.before) (right c.before.before.before.before.before.before) _ (rises_increasing _ (left_rises c.before.before.before.before.before.before.before.before.before.before.before)) (rises_increasing _ (right_rises c.before.before.before.before.before.before.before.before.before)) refl in
+    simp (settle_front (sym_diff (left c.before.before.before.before.before.before) (right c.before.before.before.before.before.before)) _ (length (left c.before.before.before.before.before.before) + length (right c.before.before.before.before.before.before)) (omega (arith, sum_short c.before.before.before.before.before.before, c.if-out-left.false)) g.0 g.1 c.zero_numbers.ensures, g.0, shared, le-leb _ _ c.if-left-gt-MAX_SUMMED.false, le-leb _ _ c.if-right-gt-MAX_SUMMED.false, left_rises c.before.before.before.before.before.before.before.before.before.before.before, right_rises c.before.before.before.before.before.before.before.before.before, le-leb _ _ c.if-out-left.false) sum_tells
 
 pub sum_spec : {M : Type 1} → statement M
 sum_spec =
@@ -80,21 +71,21 @@ sum_spec =
     (tie.spec
     (λ c κs. search rules)  -- refusal-requires
     returns
-    (λ c κs. search rules)  -- refusal-requires-2
+    (λ c κs. search rules)  -- refusal-requires-then-right-gt-MAX_SUMMED
     returns_2
     (λ c κs. search rules)  -- increasing-requires
-    (λ c κs. search rules)  -- refusal-requires-3
+    (λ c κs. search rules)  -- refusal-requires-then-not-increasing
     returns_3
     (λ c κs. search rules)  -- increasing-requires-2
-    (λ c κs. search rules)  -- refusal-requires-4
+    (λ c κs. search rules)  -- refusal-requires-then-not-increasing-2
     returns_4
-    (λ c. search rules)  -- add-if5
-    (λ c κs. search rules)  -- refusal-requires-5
+    (λ c. search rules)  -- overflow_add-left
+    (λ c κs. search rules)  -- refusal-requires-then-out-left
     returns_5
-    (λ c κs. search rules)  -- add-ptr-requires
-    (λ c. search rules)  -- add-zero-numbers
-    (λ c κs. let h = sum_short c.before.before.before in search rules)  -- zero-numbers-requires
-    (λ c. search rules)  -- add-t14
-    (λ c. let a = c in omega (arith, sum_short a.before.before.before.before.before.before, a.add_ptr-len.ensures.0))  -- sub-t7
-    (λ c. search rules)  -- same-length
+    (λ c κs. search rules)  -- add_ptr-len-requires
+    (λ c. search rules)  -- overflow_add-left-2
+    (λ c κs. let h = sum_short c.before.before.before in search rules)  -- zero_numbers-requires
+    (λ c. search rules)  -- overflow_add-result
+    (λ c. omega (arith, sum_short c.before.before.before.before.before.before, c.add_ptr-len.ensures.0))  -- overflow_sub-result
+    (λ c. search rules)  -- shape_of-out
     returns_6)

@@ -6,30 +6,27 @@ use Rattle.exports.proofs.orohkaril_check.Tie as tie
 
 returns : tie.Need-returns-in-Refused
 returns c =
-    let d = c in
-    tells_check d.check.ensures d.in-Refused.is c.tell.ensures.0 c.tell.ensures.1
+    tells_check c.check.ensures c.in-Refused.is c.tell.ensures.0 c.tell.ensures.1
 
 returns_2 : tie.Need-returns-in-Yes
 returns_2 c =
-    let d = c in
-    tells_check d.check.ensures d.in-Yes.is c.tell-in-Yes.ensures.0 c.tell-in-Yes.ensures.1
+    tells_check c.check.ensures c.in-Yes.is c.tell-in-Yes.ensures.0 c.tell-in-Yes.ensures.1
 
 returns_3 : tie.Need-returns-in-No
 returns_3 c =
-    let d = c in
-    tells_check d.check.ensures d.in-No.is c.tell-in-No.ensures.0 c.tell-in-No.ensures.1
+    tells_check c.check.ensures c.in-No.is c.tell-in-No.ensures.0 c.tell-in-No.ensures.1
 
 pub orohkaril_check_spec : {M : Type 1} → statement M
 orohkaril_check_spec =
     tie.close
     (tie.spec
     (λ c κs. search rules)  -- check-requires
-    (λ c. search rules)  -- enum-known-answer
+    (λ c. search rules)  -- enum_known-answer
     (λ c κs. search rules)  -- tell-requires
-    (λ c. search rules)  -- enum_told
-    (λ c κs. search rules)  -- tell-requires-2
-    (λ c. search rules)  -- enum-told-2
-    (λ c κs. search rules)  -- tell-requires-3
+    (λ c. search rules)  -- enum_told-1
+    (λ c κs. search rules)  -- tell-requires-in-Yes
+    (λ c. search rules)  -- enum_told-in-No
+    (λ c κs. search rules)  -- tell-requires-in-No
     returns
     returns_2
     returns_3)

@@ -13,7 +13,7 @@ pub orohkaril_sum_spec : {M : Type 1} → statement M
 orohkaril_sum_spec =
     tie.close
     (tie.spec
-    (λ c κs. search rules)  -- sum-requires
+    (λ c κs. search rules)  -- sum-summed-requires
     (λ c κs. search rules)  -- tell-requires
-    (λ c. search rules)  -- same-length
+    (λ c. search rules)  -- shape_of-out
     returns)

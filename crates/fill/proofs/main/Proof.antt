@@ -15,13 +15,13 @@ pub main_spec : {M : Type 1} → statement M
 main_spec =
     tie.close
     (tie.spec
-    (λ c. search rules)  -- slice-aggregate-read-full
-    (λ c κs. search rules)  -- read-full-requires
-    (λ c. search rules)  -- array-share-prefix-bytes
-    (λ c. search rules)  -- slice-aggregate-link-file
-    (λ c. search rules)  -- slice-aggregate-link-file-2
-    (λ c κs. search rules)  -- link-file-requires
+    (λ c. search rules)  -- slice_bounds-read_full-end
+    (λ c κs. search rules)  -- read_full-n-requires
+    (λ c. search rules)  -- slice_bounds-bytes-end
+    (λ c. search rules)  -- slice_bounds-link_file-end
+    (λ c. search rules)  -- slice_bounds-link_file-end-2
+    (λ c κs. search rules)  -- link_file-end-requires
     array_share_prefix_text
     slice_aggregate_write_all
-    (λ c κs. search rules)  -- write-all-requires
+    (λ c κs. search rules)  -- write_all-requires
     (λ c. search rules))

@@ -56,20 +56,20 @@ lazy_gaussian_elimination_spec =
     tie.close
     (tie.spec
     (λ c κs. search rules)  -- rules-requires
-    (λ c. search rules)  -- enum-known-answer
+    (λ c. search rules)  -- enum_known-answer
     (λ c κs. search rules)  -- refused-requires
-    (λ c. search rules)  -- enum_told
-    (λ c κs. search rules)  -- refused-requires-2
+    (λ c. search rules)  -- enum_told-1
+    (λ c κs. search rules)  -- refused-requires-then-solution-n
     returns
     lazy_numbers_requires
-    (λ c κs. search rules)  -- refused-requires-3
+    (λ c κs. search rules)  -- refused-requires-then-numbers-lazy_numbers
     returns_2
     lazy_words_requires
-    (λ c κs. search rules)  -- refused-requires-4
+    (λ c κs. search rules)  -- refused-requires-then-words-lazy_words
     returns_3
     run_requires
     returns_4
-    (λ c. search rules)  -- same-length
-    (λ c. search rules)  -- same-length-2
-    (λ c. search rules)  -- same-length-3
+    (λ c. search rules)  -- shape_of-solution
+    (λ c. search rules)  -- shape_of-numbers
+    (λ c. search rules)  -- shape_of-words
     returns_5)

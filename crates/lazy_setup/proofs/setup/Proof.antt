@@ -5,19 +5,19 @@ use Rattle.lazy_setup.proofs.setup.Statement.{statement}
 use Rattle.lazy_setup.proofs.setup.Tie as tie
 
 setup_numbers_requires : tie.Need-setup_numbers-first-requires
-setup_numbers_requires c κs = let s = c in (fits_plain s.requires.0, s.requires.1)
+setup_numbers_requires c κs = (fits_plain c.requires.0, c.requires.1)
 
 returns : tie.Need-returns
-returns c = let s = c in let f = s.requires.0 in (stand_made f _ (c.setup_numbers-first.ensures.0 _ f), (c.setup_numbers-first.ensures.1 _ f, words_made f _ s.args.words.now _ _ c.lazy_words.ensures c.zero_words.ensures c.copy_words.ensures))
+returns c = let f = c.requires.0 in (stand_made f _ (c.setup_numbers-first.ensures.0 _ f), (c.setup_numbers-first.ensures.1 _ f, words_made f _ c.args.words.now _ _ c.lazy_words.ensures c.zero_words.ensures c.copy_words.ensures))
 
 pub setup_spec : {M : Type 1} → statement M
 setup_spec =
     tie.close
     (tie.spec
-    (λ c κs. search rules)  -- lazy-words-requires
-    (λ c κs. search rules)  -- zero-words-requires
-    (λ c κs. search rules)  -- copy-words-requires
+    (λ c κs. search rules)  -- lazy_words-requires
+    (λ c κs. search rules)  -- zero_words-requires
+    (λ c κs. search rules)  -- copy_words-requires
     setup_numbers_requires
-    (λ c. search rules)  -- same-length
-    (λ c. search rules)  -- same-length-2
+    (λ c. search rules)  -- shape_of-numbers
+    (λ c. search rules)  -- shape_of-words
     returns)

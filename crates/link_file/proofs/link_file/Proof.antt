@@ -11,7 +11,7 @@ returns c =
 
 pub link_file_spec : {M : Type 1} → statement M
 link_file_spec = tie.close (tie.spec
-    (λ c. short_call c.args.bytes.now c.args.out.now (search rules))  -- returns-then
-    (λ c κs. search rules)  -- write-text-requires
-    (λ c. search rules)  -- same-length
+    (λ c. short_call c.args.bytes.now c.args.out.now (search rules))  -- returns-then-out-lt-MOST_TEXT
+    (λ c κs. search rules)  -- write_text-requires
+    (λ c. search rules)  -- shape_of-out
     returns)

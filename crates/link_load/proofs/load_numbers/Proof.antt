@@ -38,12 +38,12 @@ load_numbers_spec =
     loop_holds
     read_number_requires
     cast_vars
-    (λ c. search rules)  -- add-vars
-    (λ c. search rules)  -- mul-vars
-    (λ c. search rules)  -- slice-write-vars
+    (λ c. search rules)  -- overflow_add-vars
+    (λ c. search rules)  -- offset_bounds-vars-to
+    (λ c. search rules)  -- bounds-vars-to
     add_p
-    (λ c. search rules)  -- add-i
-    (λ c. search rules)  -- loop-less
+    (λ c. search rules)  -- overflow_add-i
+    (λ c. search rules)  -- loop-i-smaller
     loop_again
-    (λ c. search rules)  -- same-length
+    (λ c. search rules)  -- shape_of-vars
     returns)

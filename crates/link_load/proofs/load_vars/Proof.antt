@@ -20,13 +20,12 @@ add_load_numbers c =
 
 load_numbers_requires : tie.Need-load_numbers-requires
 load_numbers_requires c κs =
-    let s = c in
-    let a = s.args in
-    let r = row_rooms a.kind a.w a.at a.bytes.now s.requires.0 in
+    let a = c.args in
+    let r = row_rooms a.kind a.w a.at a.bytes.now c.requires.0 in
     let h = c.count_bytes.ensures in
     let k = c.count_at-count.ensures.0 in
     let q = ap (λ (n : ℕ). n * a.w) k in
-    (omega arith, s.requires.1, s.requires.3, omega (arith, s.requires.4))
+    (omega arith, c.requires.1, c.requires.3, omega (arith, c.requires.4))
 
 returns : tie.Need-returns
 returns c =
@@ -41,8 +40,8 @@ load_vars_spec =
     tie.close
     (tie.spec
     count_at_requires
-    (λ c κs. search rules)  -- count-bytes-requires
+    (λ c κs. search rules)  -- count_bytes-requires
     add_load_numbers
     load_numbers_requires
-    (λ c. search rules)  -- same-length
+    (λ c. search rules)  -- shape_of-vars
     returns)

@@ -13,15 +13,15 @@ pub solve_by_kind_spec : {M : Type 1} → statement M
 solve_by_kind_spec =
     tie.close
     (tie.spec
-    (λ c κs. search rules)  -- lazy-gaussian-elimination-requires
-    (λ c. search rules)  -- same-length
-    (λ c. search rules)  -- same-length-2
-    (λ c. search rules)  -- same-length-3
+    (λ c κs. search rules)  -- lazy_gaussian_elimination-built-requires
+    (λ c. search rules)  -- shape_of-solution-then-kind-eq-LAZY
+    (λ c. search rules)  -- shape_of-numbers-then-kind-eq-LAZY
+    (λ c. search rules)  -- shape_of-words-then-kind-eq-LAZY
     (λ c.
     let e = c.lazy_gaussian_elimination-built.ensures in
-    rw (lazy_solver c.args.kind (search rules)) (tells_answer e.0, e.0.solution_is))  -- returns-then
-    (λ c κs. search rules)  -- gaussian-elimination-requires
-    (λ c. search rules)  -- same-length-4
-    (λ c. search rules)  -- same-length-5
-    (λ c. search rules)  -- same-length-6
+    rw (lazy_solver c.args.kind (search rules)) (tells_answer e.0, e.0.solution_is))  -- returns-then-kind-eq-LAZY
+    (λ c κs. search rules)  -- gaussian_elimination-built-requires
+    (λ c. search rules)  -- shape_of-solution
+    (λ c. search rules)  -- shape_of-numbers
+    (λ c. search rules)  -- shape_of-words
     returns)

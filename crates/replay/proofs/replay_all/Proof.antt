@@ -14,12 +14,12 @@ replay_all_spec =
     (tie.spec
     invariant_loop
     decreases_loop
-    (λ c. search rules)  -- loop-holds
-    (λ c κs. search rules)  -- replay-next-requires
-    (λ c. search rules)  -- same-length
-    (λ c. search rules)  -- returns
-    (λ c. search rules)  -- sub-turns
-    (λ c. search rules)  -- loop-less
-    (λ c. search rules)  -- loop-again
-    (λ c. search rules)  -- same-length-2
+    (λ c. search rules)  -- loop-turns-init
+    (λ c κs. search rules)  -- replay_next-requires
+    (λ c. search rules)  -- shape_of-counts-then-not-replay_next
+    (λ c. search rules)  -- returns-then-not-replay_next
+    (λ c. search rules)  -- overflow_sub-turns
+    (λ c. search rules)  -- loop-turns-smaller
+    (λ c. search rules)  -- loop-turns-preserved
+    (λ c. search rules)  -- shape_of-counts
     (λ c. search rules))

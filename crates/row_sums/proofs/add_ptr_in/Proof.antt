@@ -22,29 +22,26 @@ copy_within_numbers_requires_2 c κs = let h = ends c.before.before.before.befor
 
 returns : tie.Need-returns
 returns c =
-    let k2 = c in
-    let k1 = k2 in
-    let m = k1 in
-    let g = gather_rows (start m.before.before.before.before.before.before.before.before.before.before).requires m.merge_in-m.ensures.0 m.merge_in-m.ensures.1 k1.copy_within_numbers.ensures k2.copy_within_numbers-2.ensures in
-    let h = ends m.before.before.before.before.before.before.before.before.before.before in
+    let g = gather_rows (start c.before.before.before.before.before.before.before.before.before.before).requires c.merge_in-m.ensures.0 c.merge_in-m.ensures.1 c.copy_within_numbers.ensures c.copy_within_numbers-2.ensures in
+    let h = ends c.before.before.before.before.before.before.before.before.before.before in
     (g.0, (h.fits, g.1))
 
 pub add_ptr_in_spec : {M : Type 1} → statement M
 add_ptr_in_spec =
     tie.close
     (tie.spec
-    (λ c κs. search rules)  -- merge-in-requires
-    (λ c. let h = ends c.before.before.before in search rules)  -- add-copy-within-numbers
-    (λ c. let h = ends c.before.before.before in search rules)  -- sub-copy-within-numbers
-    (λ c. let h = ends c.before.before.before in search rules)  -- add-copy-within-numbers-2
+    (λ c κs. search rules)  -- merge_in-m-requires
+    (λ c. let h = ends c.before.before.before in search rules)  -- overflow_add-p
+    (λ c. let h = ends c.before.before.before in search rules)  -- overflow_sub-li
+    (λ c. let h = ends c.before.before.before in search rules)  -- overflow_add-s
     copy_within_numbers_requires
-    (λ c. let h = ends c.before.before.before.before.before.before in search rules)  -- sub-e
-    (λ c. let h = ends c.before.before.before.before.before.before in search rules)  -- add-e
-    (λ c. let h = ends c.before.before.before.before.before.before.before in search rules)  -- add-copy-within-numbers-3
-    (λ c. let h = ends c.before.before.before.before.before.before.before in search rules)  -- sub-copy-within-numbers-2
-    (λ c. let h = ends c.before.before.before.before.before.before.before in search rules)  -- add-copy-within-numbers-4
+    (λ c. let h = ends c.before.before.before.before.before.before in search rules)  -- overflow_sub-e
+    (λ c. let h = ends c.before.before.before.before.before.before in search rules)  -- overflow_add-e
+    (λ c. let h = ends c.before.before.before.before.before.before.before in search rules)  -- overflow_add-q
+    (λ c. let h = ends c.before.before.before.before.before.before.before in search rules)  -- overflow_sub-lj
+    (λ c. let h = ends c.before.before.before.before.before.before.before in search rules)  -- overflow_add-s-2
     copy_within_numbers_requires_2
-    (λ c. let h = ends c.before.before.before.before.before.before.before.before.before.before in search rules)  -- sub-result
-    (λ c. let h = ends c.before.before.before.before.before.before.before.before.before.before in search rules)  -- add-result
-    (λ c. search rules)  -- same-length
+    (λ c. let h = ends c.before.before.before.before.before.before.before.before.before.before in search rules)  -- overflow_sub-result
+    (λ c. let h = ends c.before.before.before.before.before.before.before.before.before.before in search rules)  -- overflow_add-result
+    (λ c. search rules)  -- shape_of-area
     returns)

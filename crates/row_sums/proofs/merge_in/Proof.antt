@@ -38,32 +38,32 @@ merge_in_spec =
     (tie.spec
     invariant_loop
     decreases_loop
-    (λ c. search (rules, merging_begin))  -- loop-holds
-    (λ c. search rules)  -- add-l
-    (λ c. search rules)  -- mul-l
-    (λ c. search rules)  -- slice-read-l
-    (λ c. omega (arith, ltb-true))  -- add-r
-    (λ c. omega (arith, ltb-true))  -- mul-r
-    (λ c. omega (arith, ltb-true))  -- slice-read-r
-    (λ c. let h = low c in search rules)  -- add-area
-    (λ c. let h = low c in search rules)  -- mul-area
-    (λ c. let h = low c in search rules)  -- slice-write-area
-    (λ c. search rules)  -- add-i
-    (λ c. let h = low c in search rules)  -- add-d
-    (λ c. search rules)  -- loop-less
-    (λ c. merging_less c.loop-i.invariant (search rules) (omega (arith, ltb-true)) c.if-l-r.true)  -- loop-again
-    (λ c. let h = low_2 c in search rules)  -- add-area-2
-    (λ c. let h = low_2 c in search rules)  -- mul-area-2
-    (λ c. let h = low_2 c in search rules)  -- slice-write-area-2
-    (λ c. omega (arith, ltb-true))  -- add-j
-    (λ c. let h = low_2 c in search rules)  -- add-d-2
-    (λ c. omega (arith, ltb-true))  -- loop-less-2
-    (λ c. merging_more c.loop-i.invariant (search rules) (omega (arith, ltb-true)) c.if-r-l.true)  -- loop-again-2
-    (λ c. search rules)  -- add-i-2
-    (λ c. omega (arith, ltb-true))  -- add-j-2
-    (λ c. omega (arith, ltb-true))  -- loop-less-3
-    (λ c. merging_same c.loop-i.invariant (search rules) (omega (arith, ltb-true)) c.if-l-r.false c.if-r-l.false)  -- loop-again-3
-    (λ c. search rules)  -- same-length
+    (λ c. search (rules, merging_begin))  -- loop-i-init
+    (λ c. search rules)  -- overflow_add-l
+    (λ c. search rules)  -- offset_bounds-area-p
+    (λ c. search rules)  -- bounds-area-p
+    (λ c. omega (arith, ltb-true))  -- overflow_add-r
+    (λ c. omega (arith, ltb-true))  -- offset_bounds-area-q
+    (λ c. omega (arith, ltb-true))  -- bounds-area-q
+    (λ c. let h = low c in search rules)  -- overflow_add-area
+    (λ c. let h = low c in search rules)  -- offset_bounds-area-s
+    (λ c. let h = low c in search rules)  -- bounds-area-s
+    (λ c. search rules)  -- overflow_add-i
+    (λ c. let h = low c in search rules)  -- overflow_add-d
+    (λ c. search rules)  -- loop-i-smaller-then-l-r
+    (λ c. merging_less c.loop-i.invariant (search rules) (omega (arith, ltb-true)) c.if-l-r.true)  -- loop-i-preserved-then-l-r
+    (λ c. let h = low_2 c in search rules)  -- overflow_add-area-then-r-l
+    (λ c. let h = low_2 c in search rules)  -- offset_bounds-area-s-then-r-l
+    (λ c. let h = low_2 c in search rules)  -- bounds-area-s-then-r-l
+    (λ c. omega (arith, ltb-true))  -- overflow_add-j
+    (λ c. let h = low_2 c in search rules)  -- overflow_add-d-then-r-l
+    (λ c. omega (arith, ltb-true))  -- loop-i-smaller-then-r-l
+    (λ c. merging_more c.loop-i.invariant (search rules) (omega (arith, ltb-true)) c.if-r-l.true)  -- loop-i-preserved-then-r-l
+    (λ c. search rules)  -- overflow_add-i-in-loop-i
+    (λ c. omega (arith, ltb-true))  -- overflow_add-j-in-loop-i
+    (λ c. omega (arith, ltb-true))  -- loop-i-smaller
+    (λ c. merging_same c.loop-i.invariant (search rules) (omega (arith, ltb-true)) c.if-l-r.false c.if-r-l.false)  -- loop-i-preserved
+    (λ c. search rules)  -- shape_of-area-else-j-lj
     returns
-    (λ c. search rules)  -- same-length-2
+    (λ c. search rules)  -- shape_of-area-after-loop-i
     returns_2)

@@ -8,11 +8,11 @@ pub clear_spec : {M : Type 1} → statement M
 clear_spec =
     tie.close
     (tie.spec
-    (λ c. search rules)  -- mul-zero-numbers
-    (λ c. search rules)  -- add-zero-numbers
-    (λ c. search rules)  -- add-zero-numbers-2
-    (λ c κs. search rules)  -- zero-numbers-requires
-    (λ c κs. search rules)  -- zero-words-requires
-    (λ c. search rules)  -- same-length
-    (λ c. search rules)  -- same-length-2
+    (λ c. search rules)  -- overflow_mul-m
+    (λ c. search rules)  -- overflow_add-m
+    (λ c. search rules)  -- overflow_add-m-2
+    (λ c κs. search rules)  -- zero_numbers-requires
+    (λ c κs. search rules)  -- zero_words-requires
+    (λ c. search rules)  -- shape_of-numbers
+    (λ c. search rules)  -- shape_of-words
     (λ c. (zeroed_cleared _ _ _ c.zero_numbers.ensures, zeroed_cleared _ _ _ c.zero_words.ensures)))

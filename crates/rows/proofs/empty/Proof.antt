@@ -10,12 +10,12 @@ pub empty_spec : {M : Type 1} → statement M
 empty_spec =
     tie.close
     (tie.spec
-    (λ c. search rules)  -- mul-lens
-    (λ c. search rules)  -- add-lens
-    (λ c κs. drawn_padded c.requires)  -- empty-rows-requires
-    (λ c. search rules)  -- add-zero-numbers
-    (λ c κs. search rules)  -- zero-numbers-requires
-    (λ c κs. search rules)  -- zero-words-requires
-    (λ c. search rules)  -- same-length
-    (λ c. search rules)  -- same-length-2
+    (λ c. search rules)  -- overflow_mul-lens
+    (λ c. search rules)  -- overflow_add-lens
+    (λ c κs. drawn_padded c.requires)  -- empty_rows-requires
+    (λ c. search rules)  -- overflow_add-lens-2
+    (λ c κs. search rules)  -- zero_numbers-requires
+    (λ c κs. search rules)  -- zero_words-requires
+    (λ c. search rules)  -- shape_of-numbers
+    (λ c. search rules)  -- shape_of-words
     (λ c. (emptied c.requires _ _ c.empty_rows.ensures c.zero_numbers.ensures, zeroed_cleared _ _ _ c.zero_words.ensures)))

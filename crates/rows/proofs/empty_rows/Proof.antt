@@ -45,7 +45,7 @@ empty_rows_spec =
     (tie.spec
     invariant_loop
     decreases_loop
-    (λ c. search (rules, emptying_begin))  -- loop-holds
+    (λ c. search (rules, emptying_begin))  -- loop-i-init
     mul_row
     add_row
     add_len
@@ -54,8 +54,8 @@ empty_rows_spec =
     cast_len
     add_zero_numbers
     zero_numbers_requires
-    (λ c. search rules)  -- add-i
-    (λ c. search rules)  -- loop-less
+    (λ c. search rules)  -- overflow_add-i
+    (λ c. search rules)  -- loop-i-smaller
     loop_again
-    (λ c. search rules)  -- same-length
+    (λ c. search rules)  -- shape_of-numbers
     (λ c. search (rules, emptying_end)))

@@ -10,16 +10,16 @@ pub store_row_spec : {M : Type 1} → statement M
 store_row_spec =
     tie.close
     (tie.spec
-    (λ c. search rules)  -- mul-lens
-    (λ c. search rules)  -- add-lens
-    (λ c. let s = c in let h = row_before s.args.i s.args.m s.args.n s.requires.0.1 in record { fits = omega (arith, s.requires.0.0.numbers_room_lem) })  -- mul-copy-numbers
-    (λ c κs. let s = c in store_fits s.requires.0.0 s.args.i s.requires.0.1 s.args.vars.now s.requires.1.1)  -- copy-numbers-requires
-    (λ c. let s = c in let h = store_short s.requires.0.0 s.args.i s.requires.0.1 s.args.vars.now s.requires.1.1 in omega (arith, s.requires.0.2))  -- cast-numbers
-    (λ c. search rules)  -- add-numbers
-    (λ c. search rules)  -- mul-numbers
-    (λ c. search rules)  -- slice-write-numbers
-    (λ c. search rules)  -- mul-words
-    (λ c. search rules)  -- slice-write-words
-    (λ c. search rules)  -- same-length
-    (λ c. search rules)  -- same-length-2
-    (λ c. let s = c in store_done s.requires.0.0 s.args.i s.requires.0.1 s.args.vars.now s.requires.1.1 _ _ s.requires.1.0 c.copy_numbers.ensures))
+    (λ c. search rules)  -- overflow_mul-lens
+    (λ c. search rules)  -- overflow_add-lens
+    (λ c. let h = row_before c.args.i c.args.m c.args.n c.requires.0.1 in record { fits = omega (arith, c.requires.0.0.numbers_room_lem) })  -- overflow_mul-i
+    (λ c κs. store_fits c.requires.0.0 c.args.i c.requires.0.1 c.args.vars.now c.requires.1.1)  -- copy_numbers-requires
+    (λ c. let h = store_short c.requires.0.0 c.args.i c.requires.0.1 c.args.vars.now c.requires.1.1 in omega (arith, c.requires.0.2))  -- overflow_cast-numbers
+    (λ c. search rules)  -- overflow_add-numbers
+    (λ c. search rules)  -- offset_bounds-numbers-lens
+    (λ c. search rules)  -- bounds-numbers-lens
+    (λ c. search rules)  -- offset_bounds-words-i
+    (λ c. search rules)  -- bounds-words-i
+    (λ c. search rules)  -- shape_of-numbers
+    (λ c. search rules)  -- shape_of-words
+    (λ c. store_done c.requires.0.0 c.args.i c.requires.0.1 c.args.vars.now c.requires.1.1 _ _ c.requires.1.0 c.copy_numbers.ensures))

@@ -12,32 +12,32 @@ pub swap_rows_spec : {M : Type 1} → statement M
 swap_rows_spec =
     tie.close
     (tie.spec
-    (λ c. search rules)  -- mul-lens
-    (λ c. search rules)  -- add-lens
-    (λ c. search rules)  -- add-li
-    (λ c. search rules)  -- mul-li
-    (λ c. search rules)  -- slice-read-li
-    (λ c. search rules)  -- add-lj
-    (λ c. search rules)  -- mul-lj
-    (λ c. search rules)  -- slice-read-lj
-    (λ c κs. search rules)  -- longer-requires
-    (λ c. search rules)  -- add-numbers
-    (λ c. search rules)  -- mul-numbers
-    (λ c. search rules)  -- slice-write-numbers
-    (λ c. search rules)  -- add-numbers-2
-    (λ c. search rules)  -- mul-numbers-2
-    (λ c. simp length-set (omega arith))  -- slice-write-numbers-2
-    (λ c. search rules)  -- mul-c
-    (λ c. search rules)  -- slice-read-c
-    (λ c. search rules)  -- mul-words
-    (λ c. search rules)  -- slice-read-words
-    (λ c. search rules)  -- mul-words-2
-    (λ c. search rules)  -- slice-write-words
-    (λ c. search rules)  -- mul-words-3
-    (λ c. simp length-set (omega arith))  -- slice-write-words-2
-    (λ c. let s = c in let h = row_before s.args.i s.args.m s.args.n (omega arith) in record { fits = omega arith })  -- mul-exchange-front
-    (λ c. let s = c in let h = row_before s.args.j s.args.m s.args.n (omega arith) in record { fits = omega arith })  -- mul-exchange-front-2
-    (λ c κs. let s = c in swap_fits s.requires.0 s.args.i s.args.j _ s.requires.1 s.requires.2 c.longer-k.ensures)  -- exchange-front-requires
-    (λ c. let s = c in c.numbers-1.given ∙ swap_length s.requires.0 s.args.i s.args.j _ s.requires.1 s.requires.2 c.longer-k.ensures)  -- same-length
-    (λ c. search rules)  -- same-length-2
-    (λ c. let s = c in swap_done s.requires.0 s.args.i s.args.j _ s.requires.1 s.requires.2 c.longer-k.ensures _ _ c.exchange_front.ensures))
+    (λ c. search rules)  -- overflow_mul-lens
+    (λ c. search rules)  -- overflow_add-lens
+    (λ c. search rules)  -- overflow_add-li
+    (λ c. search rules)  -- offset_bounds-numbers-lens
+    (λ c. search rules)  -- bounds-numbers-lens
+    (λ c. search rules)  -- overflow_add-lj
+    (λ c. search rules)  -- offset_bounds-numbers-lens-2
+    (λ c. search rules)  -- bounds-numbers-lens-2
+    (λ c κs. search rules)  -- longer-k-requires
+    (λ c. search rules)  -- overflow_add-numbers
+    (λ c. search rules)  -- offset_bounds-numbers-lens-3
+    (λ c. search rules)  -- bounds-numbers-lens-3
+    (λ c. search rules)  -- overflow_add-numbers-2
+    (λ c. search rules)  -- offset_bounds-numbers-lens-4
+    (λ c. simp length-set (omega arith))  -- bounds-numbers-lens-4
+    (λ c. search rules)  -- offset_bounds-words-i
+    (λ c. search rules)  -- bounds-words-i
+    (λ c. search rules)  -- offset_bounds-words-j
+    (λ c. search rules)  -- bounds-words-j
+    (λ c. search rules)  -- offset_bounds-words-i-2
+    (λ c. search rules)  -- bounds-words-i-2
+    (λ c. search rules)  -- offset_bounds-words-j-2
+    (λ c. simp length-set (omega arith))  -- bounds-words-j-2
+    (λ c. let h = row_before c.args.i c.args.m c.args.n (omega arith) in record { fits = omega arith })  -- overflow_mul-i
+    (λ c. let h = row_before c.args.j c.args.m c.args.n (omega arith) in record { fits = omega arith })  -- overflow_mul-j
+    (λ c κs. swap_fits c.requires.0 c.args.i c.args.j _ c.requires.1 c.requires.2 c.longer-k.ensures)  -- exchange_front-requires
+    (λ c. c.numbers-1.given ∙ swap_length c.requires.0 c.args.i c.args.j _ c.requires.1 c.requires.2 c.longer-k.ensures)  -- shape_of-numbers
+    (λ c. search rules)  -- shape_of-words
+    (λ c. swap_done c.requires.0 c.args.i c.args.j _ c.requires.1 c.requires.2 c.longer-k.ensures _ _ c.exchange_front.ensures))

@@ -56,16 +56,16 @@ pub slow_gaussian_elimination_spec : {M : Type 1} → statement M
 slow_gaussian_elimination_spec =
     tie.close
     (tie.spec
-    (λ c κs. search rules)  -- check-rules-requires
-    (λ c. search rules)  -- enum-known-answer
+    (λ c κs. search rules)  -- check_rules-requires
+    (λ c. search rules)  -- enum_known-answer
     returns
-    (λ c. search rules)  -- enum_told
+    (λ c. search rules)  -- enum_told-1
     returns_2
     returns_3
     dense_words_requires
     returns_4
     solve_requires
-    (λ c. search rules)  -- same-length
-    (λ c. search rules)  -- same-length-2
-    (λ c. search rules)  -- same-length-3
+    (λ c. search rules)  -- shape_of-solution
+    (λ c. search rules)  -- shape_of-numbers
+    (λ c. search rules)  -- shape_of-words
     returns_5)

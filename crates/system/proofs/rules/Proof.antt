@@ -19,8 +19,7 @@ shape_kept_requires c κs =
 returns_2 : tie.Need-returns-then-not-shape_kept
 unfolding system_rules
 returns_2 c =
-    let d = c in
-    simp (sym d.sizes_fit.ensures ∙ d.if-not-sizes_fit.false, sym c.shape_kept.ensures ∙ c.if-not-shape_kept.true)
+    simp (sym c.sizes_fit.ensures ∙ c.if-not-sizes_fit.false, sym c.shape_kept.ensures ∙ c.if-not-shape_kept.true)
 
 lowest_bad_requires : tie.Need-lowest_bad-bad-requires
 lowest_bad_requires c κs =
@@ -30,12 +29,10 @@ lowest_bad_requires c κs =
 returns_3 : tie.Need-returns-then-bad-m
 unfolding system_rules
 returns_3 c =
-    let e = c in
-    let d = e in
-    let a = d.args in
+    let a = c.args in
     simp (
-      sym d.sizes_fit.ensures ∙ d.if-not-sizes_fit.false,
-      sym e.shape_kept.ensures ∙ e.if-not-shape_kept.false,
+      sym c.sizes_fit.ensures ∙ c.if-not-sizes_fit.false,
+      sym c.shape_kept.ensures ∙ c.if-not-shape_kept.false,
       sym (c.lowest_bad-bad.ensures a.constants.now),
       lt-ltb _ _ c.if-bad-m.true,
     )
@@ -43,12 +40,10 @@ returns_3 c =
 returns_4 : tie.Need-returns
 unfolding system_rules
 returns_4 c =
-    let e = c in
-    let d = e in
-    let a = d.args in
+    let a = c.args in
     simp (
-      sym d.sizes_fit.ensures ∙ d.if-not-sizes_fit.false,
-      sym e.shape_kept.ensures ∙ e.if-not-shape_kept.false,
+      sym c.sizes_fit.ensures ∙ c.if-not-sizes_fit.false,
+      sym c.shape_kept.ensures ∙ c.if-not-shape_kept.false,
       sym (c.lowest_bad-bad.ensures a.constants.now),
       le-ltb _ _ c.if-bad-m.false,
     )
@@ -57,7 +52,7 @@ pub rules_spec : {M : Type 1} → statement M
 rules_spec =
     tie.close
     (tie.spec
-    (λ c κs. search rules)  -- sizes-fit-requires
+    (λ c κs. search rules)  -- sizes_fit-requires
     returns
     shape_kept_requires
     returns_2

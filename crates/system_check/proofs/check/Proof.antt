@@ -37,11 +37,11 @@ check_spec =
     tie.close
     (tie.spec
     (λ c κs. search rules)  -- rules-requires
-    (λ c. search rules)  -- enum-known-answer
-    (λ c. search rules)  -- enum_told
+    (λ c. search rules)  -- enum_known-answer
+    (λ c. search rules)  -- enum_told-1
     (λ c.
     let other : length c.args.solution.now ≢ c.args.n = search rules in
-    simp (sym c.rules.ensures ∙ c.in-Kept.is, ne_eqb _ _ other))  -- returns-then
+    simp (sym c.rules.ensures ∙ c.in-Kept.is, ne_eqb _ _ other))  -- returns-then-solution-n
     all_met_requires
     returns
     returns_2

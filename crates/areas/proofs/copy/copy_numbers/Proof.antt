@@ -18,14 +18,14 @@ copy_numbers_spec =
     (tie.spec
     invariant_loop
     decreases_loop
-    (λ c. search (rules, copying_begin))  -- loop-holds
-    (λ c. search rules)  -- mul-numbers
-    (λ c. search rules)  -- shared-slice-read-numbers
-    (λ c. search rules)  -- add-numbers
-    (λ c. search rules)  -- mul-numbers-2
-    (λ c. search rules)  -- slice-write-numbers
-    (λ c. search rules)  -- add-i
-    (λ c. search rules)  -- loop-less
-    (λ c. search (rules, copying_turn))  -- loop-again
-    (λ c. search rules)  -- same-length
+    (λ c. search (rules, copying_begin))  -- loop-i-init
+    (λ c. search rules)  -- offset_bounds-src-i
+    (λ c. search rules)  -- bounds-src-i
+    (λ c. search rules)  -- overflow_add-numbers
+    (λ c. search rules)  -- offset_bounds-numbers-at
+    (λ c. search rules)  -- bounds-numbers-at
+    (λ c. search rules)  -- overflow_add-i
+    (λ c. search rules)  -- loop-i-smaller
+    (λ c. search (rules, copying_turn))  -- loop-i-preserved
+    (λ c. search rules)  -- shape_of-numbers
     (λ c. search (rules, copying_end)))

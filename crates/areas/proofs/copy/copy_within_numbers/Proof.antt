@@ -17,15 +17,15 @@ copy_within_numbers_spec =
     (tie.spec
     invariant_loop
     decreases_loop
-    (λ c. search (rules, moving_begin))  -- loop-holds
-    (λ c. search rules)  -- add-numbers
-    (λ c. search rules)  -- mul-numbers
-    (λ c. search rules)  -- slice-read-numbers
-    (λ c. search rules)  -- add-numbers-2
-    (λ c. search rules)  -- mul-numbers-2
-    (λ c. search rules)  -- slice-write-numbers
-    (λ c. search rules)  -- add-i
-    (λ c. search rules)  -- loop-less
-    (λ c. search (rules, moving_turn))  -- loop-again
-    (λ c. search rules)  -- same-length
+    (λ c. search (rules, moving_begin))  -- loop-i-init
+    (λ c. search rules)  -- overflow_add-numbers
+    (λ c. search rules)  -- offset_bounds-numbers-from
+    (λ c. search rules)  -- bounds-numbers-from
+    (λ c. search rules)  -- overflow_add-numbers-in-loop-i
+    (λ c. search rules)  -- offset_bounds-numbers-to
+    (λ c. search rules)  -- bounds-numbers-to
+    (λ c. search rules)  -- overflow_add-i
+    (λ c. search rules)  -- loop-i-smaller
+    (λ c. search (rules, moving_turn))  -- loop-i-preserved
+    (λ c. search rules)  -- shape_of-numbers
     (λ c. search (rules, moving_end)))

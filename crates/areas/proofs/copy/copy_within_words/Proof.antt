@@ -17,15 +17,15 @@ copy_within_words_spec =
     (tie.spec
     invariant_loop
     decreases_loop
-    (λ c. search (rules, moving_begin))  -- loop-holds
-    (λ c. search rules)  -- add-words
-    (λ c. search rules)  -- mul-words
-    (λ c. search rules)  -- slice-read-words
-    (λ c. search rules)  -- add-words-2
-    (λ c. search rules)  -- mul-words-2
-    (λ c. search rules)  -- slice-write-words
-    (λ c. search rules)  -- add-i
-    (λ c. search rules)  -- loop-less
-    (λ c. search (rules, moving_turn))  -- loop-again
-    (λ c. search rules)  -- same-length
+    (λ c. search (rules, moving_begin))  -- loop-i-init
+    (λ c. search rules)  -- overflow_add-words
+    (λ c. search rules)  -- offset_bounds-words-from
+    (λ c. search rules)  -- bounds-words-from
+    (λ c. search rules)  -- overflow_add-words-in-loop-i
+    (λ c. search rules)  -- offset_bounds-words-to
+    (λ c. search rules)  -- bounds-words-to
+    (λ c. search rules)  -- overflow_add-i
+    (λ c. search rules)  -- loop-i-smaller
+    (λ c. search (rules, moving_turn))  -- loop-i-preserved
+    (λ c. search rules)  -- shape_of-words
     (λ c. search (rules, moving_end)))

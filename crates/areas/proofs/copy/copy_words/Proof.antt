@@ -18,14 +18,14 @@ copy_words_spec =
     (tie.spec
     invariant_loop
     decreases_loop
-    (λ c. search (rules, copying_begin))  -- loop-holds
-    (λ c. search rules)  -- mul-words
-    (λ c. search rules)  -- shared-slice-read-words
-    (λ c. search rules)  -- add-words
-    (λ c. search rules)  -- mul-words-2
-    (λ c. search rules)  -- slice-write-words
-    (λ c. search rules)  -- add-i
-    (λ c. search rules)  -- loop-less
-    (λ c. search (rules, copying_turn))  -- loop-again
-    (λ c. search rules)  -- same-length
+    (λ c. search (rules, copying_begin))  -- loop-i-init
+    (λ c. search rules)  -- offset_bounds-src-i
+    (λ c. search rules)  -- bounds-src-i
+    (λ c. search rules)  -- overflow_add-words
+    (λ c. search rules)  -- offset_bounds-words-at
+    (λ c. search rules)  -- bounds-words-at
+    (λ c. search rules)  -- overflow_add-i
+    (λ c. search rules)  -- loop-i-smaller
+    (λ c. search (rules, copying_turn))  -- loop-i-preserved
+    (λ c. search rules)  -- shape_of-words
     (λ c. search (rules, copying_end)))

@@ -19,17 +19,17 @@ exchange_bytes_spec =
     (tie.spec
     invariant_loop
     decreases_loop
-    (λ c. search (rules, exchanging_begin))  -- loop-holds
-    (λ c. search rules)  -- add-a
-    (λ c. search rules)  -- slice-read-a
-    (λ c. search rules)  -- add-bytes
-    (λ c. search rules)  -- slice-read-bytes
-    (λ c. search rules)  -- add-bytes-2
-    (λ c. search rules)  -- slice-write-bytes
-    (λ c. search rules)  -- add-bytes-3
-    (λ c. simp length-set (omega arith))  -- slice-write-bytes-2
-    (λ c. search rules)  -- add-i
-    (λ c. search rules)  -- loop-less
-    (λ c. search (rules, exchanging_turn))  -- loop-again
-    (λ c. search rules)  -- same-length
+    (λ c. search (rules, exchanging_begin))  -- loop-i-init
+    (λ c. search rules)  -- overflow_add-a
+    (λ c. search rules)  -- bounds-bytes-p
+    (λ c. search rules)  -- overflow_add-bytes
+    (λ c. search rules)  -- bounds-bytes-q
+    (λ c. search rules)  -- overflow_add-bytes-in-loop-i
+    (λ c. search rules)  -- bounds-bytes-p-in-loop-i
+    (λ c. search rules)  -- overflow_add-bytes-in-loop-i-2
+    (λ c. simp length-set (omega arith))  -- bounds-bytes-q-in-loop-i
+    (λ c. search rules)  -- overflow_add-i
+    (λ c. search rules)  -- loop-i-smaller
+    (λ c. search (rules, exchanging_turn))  -- loop-i-preserved
+    (λ c. search rules)  -- shape_of-bytes
     (λ c. search (rules, exchanging_end)))

@@ -19,21 +19,21 @@ exchange_numbers_spec =
     (tie.spec
     invariant_loop
     decreases_loop
-    (λ c. search (rules, exchanging_begin))  -- loop-holds
-    (λ c. search rules)  -- add-a
-    (λ c. search rules)  -- mul-a
-    (λ c. search rules)  -- slice-read-a
-    (λ c. search rules)  -- add-numbers
-    (λ c. search rules)  -- mul-numbers
-    (λ c. search rules)  -- slice-read-numbers
-    (λ c. search rules)  -- add-numbers-2
-    (λ c. search rules)  -- mul-numbers-2
-    (λ c. search rules)  -- slice-write-numbers
-    (λ c. search rules)  -- add-numbers-3
-    (λ c. search rules)  -- mul-numbers-3
-    (λ c. simp length-set (omega arith))  -- slice-write-numbers-2
-    (λ c. search rules)  -- add-i
-    (λ c. search rules)  -- loop-less
-    (λ c. search (rules, exchanging_turn))  -- loop-again
-    (λ c. search rules)  -- same-length
+    (λ c. search (rules, exchanging_begin))  -- loop-i-init
+    (λ c. search rules)  -- overflow_add-a
+    (λ c. search rules)  -- offset_bounds-numbers-p
+    (λ c. search rules)  -- bounds-numbers-p
+    (λ c. search rules)  -- overflow_add-numbers
+    (λ c. search rules)  -- offset_bounds-numbers-q
+    (λ c. search rules)  -- bounds-numbers-q
+    (λ c. search rules)  -- overflow_add-numbers-in-loop-i
+    (λ c. search rules)  -- offset_bounds-numbers-p-in-loop-i
+    (λ c. search rules)  -- bounds-numbers-p-in-loop-i
+    (λ c. search rules)  -- overflow_add-numbers-in-loop-i-2
+    (λ c. search rules)  -- offset_bounds-numbers-q-in-loop-i
+    (λ c. simp length-set (omega arith))  -- bounds-numbers-q-in-loop-i
+    (λ c. search rules)  -- overflow_add-i
+    (λ c. search rules)  -- loop-i-smaller
+    (λ c. search (rules, exchanging_turn))  -- loop-i-preserved
+    (λ c. search rules)  -- shape_of-numbers
     (λ c. search (rules, exchanging_end)))

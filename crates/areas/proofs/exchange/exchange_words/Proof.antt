@@ -19,21 +19,21 @@ exchange_words_spec =
     (tie.spec
     invariant_loop
     decreases_loop
-    (λ c. search (rules, exchanging_begin))  -- loop-holds
-    (λ c. search rules)  -- add-a
-    (λ c. search rules)  -- mul-a
-    (λ c. search rules)  -- slice-read-a
-    (λ c. search rules)  -- add-words
-    (λ c. search rules)  -- mul-words
-    (λ c. search rules)  -- slice-read-words
-    (λ c. search rules)  -- add-words-2
-    (λ c. search rules)  -- mul-words-2
-    (λ c. search rules)  -- slice-write-words
-    (λ c. search rules)  -- add-words-3
-    (λ c. search rules)  -- mul-words-3
-    (λ c. simp length-set (omega arith))  -- slice-write-words-2
-    (λ c. search rules)  -- add-i
-    (λ c. search rules)  -- loop-less
-    (λ c. search (rules, exchanging_turn))  -- loop-again
-    (λ c. search rules)  -- same-length
+    (λ c. search (rules, exchanging_begin))  -- loop-i-init
+    (λ c. search rules)  -- overflow_add-a
+    (λ c. search rules)  -- offset_bounds-words-p
+    (λ c. search rules)  -- bounds-words-p
+    (λ c. search rules)  -- overflow_add-words
+    (λ c. search rules)  -- offset_bounds-words-q
+    (λ c. search rules)  -- bounds-words-q
+    (λ c. search rules)  -- overflow_add-words-in-loop-i
+    (λ c. search rules)  -- offset_bounds-words-p-in-loop-i
+    (λ c. search rules)  -- bounds-words-p-in-loop-i
+    (λ c. search rules)  -- overflow_add-words-in-loop-i-2
+    (λ c. search rules)  -- offset_bounds-words-q-in-loop-i
+    (λ c. simp length-set (omega arith))  -- bounds-words-q-in-loop-i
+    (λ c. search rules)  -- overflow_add-i
+    (λ c. search rules)  -- loop-i-smaller
+    (λ c. search (rules, exchanging_turn))  -- loop-i-preserved
+    (λ c. search rules)  -- shape_of-words
     (λ c. search (rules, exchanging_end)))

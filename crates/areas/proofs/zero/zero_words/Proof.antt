@@ -17,11 +17,11 @@ zero_words_spec =
     (tie.spec
     invariant_loop
     decreases_loop
-    (λ c. search (rules, zeroing_begin))  -- loop-holds
-    (λ c. search rules)  -- mul-words
-    (λ c. search rules)  -- slice-write-words
-    (λ c. search rules)  -- add-k
-    (λ c. search rules)  -- loop-less
-    (λ c. search (rules, zeroing_turn))  -- loop-again
-    (λ c. search rules)  -- same-length
+    (λ c. search (rules, zeroing_begin))  -- loop-k-init
+    (λ c. search rules)  -- offset_bounds-words-k
+    (λ c. search rules)  -- bounds-words-k
+    (λ c. search rules)  -- overflow_add-k
+    (λ c. search rules)  -- loop-k-smaller
+    (λ c. search (rules, zeroing_turn))  -- loop-k-preserved
+    (λ c. search rules)  -- shape_of-words
     (λ c. search (rules, zeroing_end)))

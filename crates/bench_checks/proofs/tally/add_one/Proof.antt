@@ -11,9 +11,9 @@ pub add_one_spec : {M : Type 1} → statement M
 add_one_spec =
     tie.close
     (tie.spec
-    (λ c. search rules)  -- mul-wrapping-add-u64
-    (λ c. search rules)  -- element-copy-out-wrapping-add-u64
-    (λ c κs. search rules)  -- wrapping-add-u64-requires
-    (λ c. search rules)  -- mul-tally
-    (λ c. search rules)  -- element-write-tally
+    (λ c. search rules)  -- offset_bounds-tally-k
+    (λ c. search rules)  -- bounds-tally-k
+    (λ c κs. search rules)  -- wrapping_add_u64-requires
+    (λ c. search rules)  -- offset_bounds-tally-k-2
+    (λ c. search rules)  -- bounds-tally-k-2
     returns)

@@ -16,9 +16,9 @@ pub count_spec : {M : Type 1} → statement M
 count_spec =
     tie.close
     (tie.spec
-    (λ c. search rules)  -- mul-add-one
+    (λ c. search rules)  -- overflow_mul-row
     (λ c κs. search rules)  -- number-requires
-    (λ c. search rules)  -- cast-add-one
-    (λ c. search rules)  -- add-add-one
+    (λ c. search rules)  -- overflow_cast-number
+    (λ c. search rules)  -- overflow_add-row
     add_one_requires
     returns)

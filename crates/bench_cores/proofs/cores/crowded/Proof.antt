@@ -30,15 +30,15 @@ crowded_spec =
     (tie.spec
     invariant_loop
     decreases_loop
-    (λ c. search (rules, crowding_begin))  -- loop-holds
-    (λ c. search rules)  -- cast-degree
+    (λ c. search (rules, crowding_begin))  -- loop-v-init
+    (λ c. search rules)  -- overflow_cast-v
     (λ c κs. search rules)  -- degree-requires
     (λ c.
     let a = c.args in
     let l = c.loop-v in
     let d = c.degree.ensures.0 ∙ ap (degree l.v) (all_alive a.m a.table (omega arith) (omega arith)) in
-    crowding_found l.invariant (omega arith))  -- returns-then
-    (λ c. search rules)  -- add-v
-    (λ c. search rules)  -- loop-less
+    crowding_found l.invariant (omega arith))  -- returns-then-degree-ge64
+    (λ c. search rules)  -- overflow_add-v
+    (λ c. search rules)  -- loop-v-smaller
     loop_again
     returns)

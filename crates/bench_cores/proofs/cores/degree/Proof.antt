@@ -27,13 +27,13 @@ degree_spec =
     (tie.spec
     invariant_loop
     decreases_loop
-    (λ c. search (rules, degrees_begin))  -- loop-holds
-    (λ c. search rules)  -- mul-e
-    (λ c. search rules)  -- array-copy-out-e
-    (λ c. search rules)  -- element-copy-out-counts
-    (λ c κs. search rules)  -- counts-requires
+    (λ c. search (rules, degrees_begin))  -- loop-i-init
+    (λ c. search rules)  -- offset_bounds-table-i
+    (λ c. search rules)  -- bounds-table-i
+    (λ c. search rules)  -- bounds-alive-i
+    (λ c κs. search rules)  -- counts-d-requires
     add_d
-    (λ c. search rules)  -- add-i
-    (λ c. search rules)  -- loop-less
+    (λ c. search rules)  -- overflow_add-i
+    (λ c. search rules)  -- loop-i-smaller
     loop_again
     returns)

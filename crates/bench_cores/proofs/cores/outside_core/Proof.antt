@@ -30,11 +30,11 @@ outside_core_spec =
     (tie.spec
     invariant_loop
     decreases_loop
-    (λ c. rounds_begin _ _ (omega arith) (omega arith))  -- loop-holds
-    (λ c κs. search rules)  -- strip-requires
+    (λ c. rounds_begin _ _ (omega arith) (omega arith))  -- loop-round-init
+    (λ c κs. search rules)  -- strip-gone-requires
     returns
-    (λ c. search rules)  -- add-outside
-    (λ c. search rules)  -- add-round
-    (λ c. search rules)  -- loop-less
+    (λ c. search rules)  -- overflow_add-outside
+    (λ c. search rules)  -- overflow_add-round
+    (λ c. search rules)  -- loop-round-smaller
     loop_again
     returns_2)

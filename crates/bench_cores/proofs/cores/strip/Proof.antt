@@ -34,10 +34,10 @@ strip_spec =
     (tie.spec
     invariant_loop
     decreases_loop
-    (λ c. search (rules, stripping_begin))  -- loop-holds
-    (λ c κs. search rules)  -- strip-one-requires
+    (λ c. search (rules, stripping_begin))  -- loop-i-init
+    (λ c κs. search rules)  -- strip_one-gone-requires
     add_gone
-    (λ c. search rules)  -- add-i
-    (λ c. search rules)  -- loop-less
+    (λ c. search rules)  -- overflow_add-i
+    (λ c. search rules)  -- loop-i-smaller
     loop_again
     returns)

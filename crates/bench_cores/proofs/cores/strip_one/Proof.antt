@@ -17,11 +17,11 @@ pub strip_one_spec : {M : Type 1} → statement M
 strip_one_spec =
     tie.close
     (tie.spec
-    (λ c. search rules)  -- element-copy-out-if1
+    (λ c. search rules)  -- bounds-alive-i
     returns
-    (λ c. search rules)  -- mul-e
-    (λ c. search rules)  -- array-copy-out-e
+    (λ c. search rules)  -- offset_bounds-table-i
+    (λ c. search rules)  -- bounds-table-i
     (λ c κs. search rules)  -- hangs-requires
-    (λ c. search rules)  -- element-write-alive
+    (λ c. search rules)  -- bounds-alive-i-then-hangs
     returns_2
     returns_3)

@@ -8,13 +8,13 @@ use Rattle.bench_draws.proofs.equations.draw_row.Lts as lts
 use Rattle.bench_draws.proofs.equations.draw_equation.Reads as draw-equation-reads
 
 mul_base : tie.Need-overflow_mul-base
-mul_base c = let s = c in let r = row_before s.args.i s.args.m s.args.w (omega arith) in search rules
+mul_base c = let r = row_before c.args.i c.args.m c.args.w (omega arith) in search rules
 
 add_end : tie.Need-overflow_add-end
-add_end c = let s = c in let r = row_before s.args.i s.args.m s.args.w (omega arith) in search rules
+add_end c = let r = row_before c.args.i c.args.m c.args.w (omega arith) in search rules
 
 mul_draw_equation : tie.Need-offset_bounds-rows-base
-mul_draw_equation c = let s = c in let r = row_before s.args.i s.args.m s.args.w (omega arith) in search rules
+mul_draw_equation c = let r = row_before c.args.i c.args.m c.args.w (omega arith) in search rules
 
 sub_draw_equation : tie.Need-slice_bounds-draw_equation-count
 sub_draw_equation c = search rules
@@ -23,7 +23,7 @@ part_draw_equation_start : tie.Need-slice_bounds-draw_equation-start
 part_draw_equation_start c = search rules
 
 part_draw_equation_end : tie.Need-slice_bounds-draw_equation-end
-part_draw_equation_end c = let s = c in let r = row_before s.args.i s.args.m s.args.w (omega arith) in search rules
+part_draw_equation_end c = let r = row_before c.args.i c.args.m c.args.w (omega arith) in search rules
 
 draw_equation_requires : tie.Need-draw_equation-requires
 draw_equation_requires c κs = search rules

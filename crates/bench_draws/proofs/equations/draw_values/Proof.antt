@@ -22,15 +22,15 @@ draw_values_spec =
     (tie.spec
     invariant_loop
     decreases_loop
-    (λ c. search (rules, values_begin))  -- loop-holds
+    (λ c. search (rules, values_begin))  -- loop-i-init
     (λ c κs. search rules)  -- draw-requires
-    (λ c. search rules)  -- sub-values
-    (λ c. search rules)  -- cast-values
-    (λ c. search rules)  -- shr-values
-    (λ c. search rules)  -- mul-values
-    (λ c. search rules)  -- slice-write-values
-    (λ c. search rules)  -- add-i
-    (λ c. search rules)  -- loop-less
+    (λ c. search rules)  -- overflow_sub-values
+    (λ c. search rules)  -- overflow_cast-values
+    (λ c. search rules)  -- overflow_shr-values
+    (λ c. search rules)  -- offset_bounds-values-i
+    (λ c. search rules)  -- bounds-values-i
+    (λ c. search rules)  -- overflow_add-i
+    (λ c. search rules)  -- loop-i-smaller
     loop_again
-    (λ c. search rules)  -- same-length
+    (λ c. search rules)  -- shape_of-values
     (λ c. values_end c.loop-i.invariant c.loop-i-test.false))

@@ -20,11 +20,11 @@ spoil_spec =
     tie.close
     (tie.spec
     returns
-    (λ c κs. search rules)  -- below-requires
-    (λ c κs. search rules)  -- below-requires-2
-    (λ c. search rules)  -- shl-constants
-    (λ c. search rules)  -- mul-constants
-    (λ c. search rules)  -- slice-read-constants
-    (λ c. search rules)  -- slice-write-constants
-    (λ c. search rules)  -- same-length
+    (λ c κs. search rules)  -- below-i-requires
+    (λ c κs. search rules)  -- below-bit-requires
+    (λ c. search rules)  -- overflow_shl-constants
+    (λ c. search rules)  -- offset_bounds-constants-i
+    (λ c. search rules)  -- bounds-constants-i
+    (λ c. search rules)  -- bounds-constants-i-2
+    (λ c. search rules)  -- shape_of-constants
     returns_2)

@@ -17,16 +17,16 @@ pub draw_edge_spec : {M : Type 1} → statement M
 draw_edge_spec =
     tie.close
     (tie.spec
-    (λ c κs. search rules)  -- below-requires
-    (λ c. search rules)  -- sub-below
-    (λ c κs. search rules)  -- below-requires-2
-    (λ c. search rules)  -- sub-below-2
-    (λ c κs. search rules)  -- below-requires-3
-    (λ c κs. search rules)  -- skip-requires
-    (λ c κs. search rules)  -- draw-requires
-    (λ c κs. search rules)  -- vertex-past-requires
-    (λ c. search rules)  -- add-vertex-past
-    (λ c κs. search rules)  -- vertex-past-requires-2
-    (λ c. search rules)  -- add-vertex-past-2
-    (λ c κs. search rules)  -- vertex-past-requires-3
+    (λ c κs. search rules)  -- below-a-requires
+    (λ c. search rules)  -- overflow_sub-n
+    (λ c κs. search rules)  -- below-i-requires
+    (λ c. search rules)  -- overflow_sub-n-2
+    (λ c κs. search rules)  -- below-j-requires
+    (λ c κs. search rules)  -- skip-k-requires
+    (λ c κs. search rules)  -- draw-value-requires
+    (λ c κs. search rules)  -- vertex_past-requires
+    (λ c. search rules)  -- overflow_add-i
+    (λ c κs. search rules)  -- vertex_past-requires-2
+    (λ c. search rules)  -- overflow_add-k
+    (λ c κs. search rules)  -- vertex_past-requires-3
     returns)

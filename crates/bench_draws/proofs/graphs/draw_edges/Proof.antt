@@ -26,12 +26,12 @@ draw_edges_spec =
     (tie.spec
     invariant_loop
     decreases_loop
-    (λ c κs. search rules)  -- draw-edge-requires
+    (λ c κs. search rules)  -- draw_edge-first-requires
     loop_holds
-    (λ c κs. search rules)  -- draw-edge-requires-2
-    (λ c. search rules)  -- mul-table
-    (λ c. search rules)  -- array-set-from-table
-    (λ c. search rules)  -- add-i
-    (λ c. search rules)  -- loop-less
+    (λ c κs. search rules)  -- draw_edge-requires
+    (λ c. search rules)  -- offset_bounds-table-i
+    (λ c. search rules)  -- bounds-table-i
+    (λ c. search rules)  -- overflow_add-i
+    (λ c. search rules)  -- loop-i-smaller
     loop_again
     returns)

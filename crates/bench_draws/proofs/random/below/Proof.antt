@@ -10,6 +10,6 @@ pub below_spec : {M : Type 1} → statement M
 below_spec =
     tie.close
     (tie.spec
-    (λ c κs. search rules)  -- draw-requires
-    (λ c. search rules)  -- rem-result
+    (λ c κs. search rules)  -- draw-x-requires
+    (λ c. search rules)  -- nonzero_rem-result
     returns)

@@ -18,11 +18,11 @@ check_rows_spec =
     (tie.spec
     invariant_loop
     decreases_loop
-    (λ c. search (rules, checking_begin))  -- loop-holds
-    (λ c. let h = checking_row c.loop-i.invariant c.loop-i-test.true in search rules)  -- mul-row-fits
-    (λ c κs. checking_row c.loop-i.invariant c.loop-i-test.true)  -- row-fits-requires
-    (λ c. checking_found c.loop-i.invariant c.loop-i-test.true (sym c.row_fits.ensures ∙ c.if-not-row_fits.true))  -- returns
-    (λ c. search rules)  -- add-i
-    (λ c. search rules)  -- loop-less
-    (λ c. checking_turn c.loop-i.invariant c.loop-i-test.true (sym c.row_fits.ensures ∙ c.if-not-row_fits.false))  -- loop-again
+    (λ c. search (rules, checking_begin))  -- loop-i-init
+    (λ c. let h = checking_row c.loop-i.invariant c.loop-i-test.true in search rules)  -- overflow_mul-i
+    (λ c κs. checking_row c.loop-i.invariant c.loop-i-test.true)  -- row_fits-requires
+    (λ c. checking_found c.loop-i.invariant c.loop-i-test.true (sym c.row_fits.ensures ∙ c.if-not-row_fits.true))  -- returns-then-not-row_fits
+    (λ c. search rules)  -- overflow_step-i
+    (λ c. search rules)  -- loop-i-smaller
+    (λ c. checking_turn c.loop-i.invariant c.loop-i-test.true (sym c.row_fits.ensures ∙ c.if-not-row_fits.false))  -- loop-i-preserved
     (λ c. search (rules, checking_end)))

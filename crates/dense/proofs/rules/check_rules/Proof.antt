@@ -47,10 +47,10 @@ check_rules_spec =
     returns
     returns_2
     returns_3
-    (λ c. let s = c in let h = row_words_fit s.args.m s.args.w c.if-m-gt-MAX_EQUATIONS.false c.if-w-gt-MAX_ROW_WORDS.false in search rules)  -- mul-if4
+    (λ c. let h = row_words_fit c.args.m c.args.w c.if-m-gt-MAX_EQUATIONS.false c.if-w-gt-MAX_ROW_WORDS.false in search rules)  -- overflow_mul-m
     returns_4
     returns_5
-    (λ c. search rules)  -- mul-if6
+    (λ c. search rules)  -- overflow_mul-w
     returns_6
-    (λ c κs. search rules)  -- check-rows-requires
+    (λ c κs. search rules)  -- check_rows-requires
     returns_7)

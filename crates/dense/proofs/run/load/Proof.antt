@@ -11,10 +11,10 @@ pub load_spec : {M : Type 1} → statement M
 load_spec =
     tie.close
     (tie.spec
-    (λ c. search rules)  -- mul-size
-    (λ c. let s = c in sym (length-take-le (s.args.m * s.args.w) s.args.rows.now s.requires.0))  -- slice-aggregate-copy-words
-    (λ c κs. let s = c in let e = length-take-le (s.args.m * s.args.w) s.args.rows.now s.requires.0 in search rules)  -- copy-words-requires
-    (λ c. let s = c in sym (length-take-le s.args.m s.args.constants.now s.requires.1))  -- slice-aggregate-copy-words-2
-    (λ c κs. let s = c in let e = length-take-le s.args.m s.args.constants.now s.requires.1 in search rules)  -- copy-words-requires-2
-    (λ c. search rules)  -- same-length
-    (λ c. let s = c in loaded_became s.args.m s.args.w s.args.rows.now s.args.constants.now s.args.words.now _ _ s.requires.0 s.requires.1 s.requires.2 c.copy_words.ensures c.copy_words-2.ensures))
+    (λ c. search rules)  -- overflow_mul-size
+    (λ c. sym (length-take-le (c.args.m * c.args.w) c.args.rows.now c.requires.0))  -- slice_bounds-copy_words-end
+    (λ c κs. let e = length-take-le (c.args.m * c.args.w) c.args.rows.now c.requires.0 in search rules)  -- copy_words-requires
+    (λ c. sym (length-take-le c.args.m c.args.constants.now c.requires.1))  -- slice_bounds-copy_words-end-2
+    (λ c κs. let e = length-take-le c.args.m c.args.constants.now c.requires.1 in search rules)  -- copy_words-requires-2
+    (λ c. search rules)  -- shape_of-words
+    (λ c. loaded_became c.args.m c.args.w c.args.rows.now c.args.constants.now c.args.words.now _ _ c.requires.0 c.requires.1 c.requires.2 c.copy_words.ensures c.copy_words-2.ensures))

@@ -14,44 +14,41 @@ lent s = dense_kept_sound s.args.n s.args.m s.args.w s.args.rows.now s.args.cons
 -- a constant was left
 returns : tie.Need-returns-then-constant_left
 returns c =
-    let s = c in
     let l = c.load.ensures in
     let e = c.eliminate-rank.ensures in
     let r = c.clear_room.ensures in
-    rw (run_refused s.args.rows.now s.args.constants.now s.requires.0 l e (sym c.constant_left.ensures ∙ c.if-constant_left.true)) (
+    rw (run_refused c.args.rows.now c.args.constants.now c.requires.0 l e (sym c.constant_left.ensures ∙ c.if-constant_left.true)) (
       refl,
       (
         refl,
         (
-          r.0 ∙ run_numbers s.args.rows.now s.args.constants.now s.requires.0 l e,
-          r.1 ∙ run_words s.args.rows.now s.args.constants.now s.requires.0 l e,
+          r.0 ∙ run_numbers c.args.rows.now c.args.constants.now c.requires.0 l e,
+          r.1 ∙ run_words c.args.rows.now c.args.constants.now c.requires.0 l e,
         ),
       ),
     )
 
 back_substitution_requires : tie.Need-back_substitution-requires
 back_substitution_requires c κs =
-    let s = c in
-    let a = lent s.before.before.before.before.before.before.before.before.before.before.before.before.before.before.before.before.before.before.before.before.before.before.before in
+    let a = lent c.before.before.before.before.before.before.before.before.before.before.before.before.before.before.before.before.before.before.before.before.before.before.before in
     let l = c.load.ensures in
     let e = c.eliminate-rank.ensures in
-    let z = zeroed_length s.args.n s.args.solution.now _ s.requires.1 c.zero_words.ensures in
-    (e.ranked, omega (arith, e, s.requires), a.few_words, omega (arith, e, l, s.requires), rw z (run_ready s.args.rows.now s.args.constants.now s.requires.0 l e))
+    let z = zeroed_length c.args.n c.args.solution.now _ c.requires.1 c.zero_words.ensures in
+    (e.ranked, omega (arith, e, c.requires), a.few_words, omega (arith, e, l, c.requires), rw z (run_ready c.args.rows.now c.args.constants.now c.requires.0 l e))
 
 -- none was left
 returns_2 : tie.Need-returns
 returns_2 c =
-    let s = c in
     let l = c.load.ensures in
     let e = c.eliminate-rank.ensures in
     let r = c.clear_room-2.ensures in
-    rw (run_solved s.args.rows.now s.args.constants.now s.requires.0 l e (sym c.constant_left.ensures ∙ c.if-constant_left.false)) (
+    rw (run_solved c.args.rows.now c.args.constants.now c.requires.0 l e (sym c.constant_left.ensures ∙ c.if-constant_left.false)) (
       refl,
       (
-        filled s.args.n _ _ s.args.solution.now _ _ s.requires.1 c.zero_words.ensures c.back_substitution.ensures,
+        filled c.args.n _ _ c.args.solution.now _ _ c.requires.1 c.zero_words.ensures c.back_substitution.ensures,
         (
-          r.0 ∙ run_numbers s.args.rows.now s.args.constants.now s.requires.0 l e,
-          r.1 ∙ run_words s.args.rows.now s.args.constants.now s.requires.0 l e,
+          r.0 ∙ run_numbers c.args.rows.now c.args.constants.now c.requires.0 l e,
+          r.1 ∙ run_words c.args.rows.now c.args.constants.now c.requires.0 l e,
         ),
       ),
     )
@@ -61,16 +58,16 @@ solve_spec =
     tie.close
     (tie.spec
     (λ c κs. let a = lent c.before.before.before.before.before.before in search rules)  -- load-requires
-    (λ c κs. let a = lent c.before.before.before.before.before.before.before.before.before.before.before in search rules)  -- eliminate-requires
-    (λ c κs. search rules)  -- constant-left-requires
-    (λ c κs. search rules)  -- clear-room-requires
-    (λ c. search rules)  -- same-length
-    (λ c. search rules)  -- same-length-2
+    (λ c κs. let a = lent c.before.before.before.before.before.before.before.before.before.before.before in search rules)  -- eliminate-rank-requires
+    (λ c κs. search rules)  -- constant_left-requires
+    (λ c κs. search rules)  -- clear_room-requires
+    (λ c. search rules)  -- shape_of-numbers-then-constant_left
+    (λ c. search rules)  -- shape_of-words-then-constant_left
     returns
-    (λ c κs. search rules)  -- zero-words-requires
+    (λ c κs. search rules)  -- zero_words-requires
     back_substitution_requires
-    (λ c κs. search rules)  -- clear-room-requires-2
-    (λ c. search rules)  -- same-length-3
-    (λ c. search rules)  -- same-length-4
-    (λ c. search rules)  -- same-length-5
+    (λ c κs. search rules)  -- clear_room-requires-2
+    (λ c. search rules)  -- shape_of-solution
+    (λ c. search rules)  -- shape_of-numbers
+    (λ c. search rules)  -- shape_of-words
     returns_2)

@@ -17,13 +17,13 @@ row_fits_spec =
     (tie.spec
     invariant_loop
     decreases_loop
-    (λ c. search (rules, fitting_begin))  -- loop-holds
-    (λ c. search rules)  -- add-if1
-    (λ c. search rules)  -- mul-if1
-    (λ c. search rules)  -- shared-slice-read-if1
-    (λ c. search rules)  -- shr-if1
-    (λ c. search (rules, fitting_found))  -- returns
-    (λ c. search rules)  -- add-j
-    (λ c. search rules)  -- loop-less
-    (λ c. search (rules, fitting_turn))  -- loop-again
+    (λ c. search (rules, fitting_begin))  -- loop-j-init
+    (λ c. search rules)  -- overflow_add-at
+    (λ c. search rules)  -- offset_bounds-rows-at
+    (λ c. search rules)  -- bounds-rows-at
+    (λ c. search rules)  -- overflow_shr-rows
+    (λ c. search (rules, fitting_found))  -- returns-then-rows-at-ne0
+    (λ c. search rules)  -- overflow_add-j
+    (λ c. search rules)  -- loop-j-smaller
+    (λ c. search (rules, fitting_turn))  -- loop-j-preserved
     (λ c. search (rules, fitting_end)))

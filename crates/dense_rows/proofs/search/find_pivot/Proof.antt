@@ -18,14 +18,14 @@ find_pivot_spec =
     (tie.spec
     invariant_loop
     decreases_loop
-    (λ c. search rules)  -- shl-bit
-    (λ c. search (rules, searching_begin, column_of))  -- loop-holds
-    (λ c. let h = searching_place c.loop-i.invariant c.loop-i-test.true in search rules)  -- mul-if1
-    (λ c. let h = searching_place c.loop-i.invariant c.loop-i-test.true in search rules)  -- add-if1
-    (λ c. let h = searching_place c.loop-i.invariant c.loop-i-test.true in search rules)  -- mul-if1-2
-    (λ c. let h = searching_place c.loop-i.invariant c.loop-i-test.true in search rules)  -- shared-slice-read-if1
-    (λ c. search (rules, searching_found))  -- returns
-    (λ c. search rules)  -- add-i
-    (λ c. search rules)  -- loop-less
-    (λ c. search (rules, searching_turn))  -- loop-again
+    (λ c. search rules)  -- overflow_shl-bit
+    (λ c. search (rules, searching_begin, column_of))  -- loop-i-init
+    (λ c. let h = searching_place c.loop-i.invariant c.loop-i-test.true in search rules)  -- overflow_mul-i
+    (λ c. let h = searching_place c.loop-i.invariant c.loop-i-test.true in search rules)  -- overflow_add-i
+    (λ c. let h = searching_place c.loop-i.invariant c.loop-i-test.true in search rules)  -- offset_bounds-words-i
+    (λ c. let h = searching_place c.loop-i.invariant c.loop-i-test.true in search rules)  -- bounds-words-i
+    (λ c. search (rules, searching_found))  -- returns-then-words-i-ne0
+    (λ c. search rules)  -- overflow_add-i-in-loop-i
+    (λ c. search rules)  -- loop-i-smaller
+    (λ c. search (rules, searching_turn))  -- loop-i-preserved
     (λ c. search (rules, searching_end)))

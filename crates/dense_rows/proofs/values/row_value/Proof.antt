@@ -17,13 +17,13 @@ row_value_spec =
     (tie.spec
     invariant_loop
     decreases_loop
-    (λ c. search (rules, summing_begin))  -- loop-holds
-    (λ c. search rules)  -- add-word-value
-    (λ c. search rules)  -- mul-word-value
-    (λ c. search rules)  -- shared-slice-read-word-value
-    (λ c. search rules)  -- mul-word-value-2
-    (λ c κs. summing_listed c.loop-j.invariant c.loop-j-test.true)  -- word-value-requires
-    (λ c. search rules)  -- add-j
-    (λ c. search rules)  -- loop-less
-    (λ c. summing_turn c.loop-j.invariant c.loop-j-test.true c.word_value-value.ensures)  -- loop-again
+    (λ c. search (rules, summing_begin))  -- loop-j-init
+    (λ c. search rules)  -- overflow_add-at
+    (λ c. search rules)  -- offset_bounds-words-at
+    (λ c. search rules)  -- bounds-words-at
+    (λ c. search rules)  -- overflow_mul-j
+    (λ c κs. summing_listed c.loop-j.invariant c.loop-j-test.true)  -- word_value-value-requires
+    (λ c. search rules)  -- overflow_step-j
+    (λ c. search rules)  -- loop-j-smaller
+    (λ c. summing_turn c.loop-j.invariant c.loop-j-test.true c.word_value-value.ensures)  -- loop-j-preserved
     (λ c. search (rules, summing_end)))

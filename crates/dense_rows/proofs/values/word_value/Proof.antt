@@ -17,12 +17,12 @@ word_value_spec =
     (tie.spec
     invariant_loop
     decreases_loop
-    (λ c. search (rules, valuing_begin))  -- loop-holds
-    (λ c. let h = trailing_le 64 c.loop-left.left in search rules)  -- cast-value
-    (λ c. let h = valuing_place c.loop-left.invariant c.loop-left-test.true in search rules)  -- add-value
-    (λ c. let h = valuing_place c.loop-left.invariant c.loop-left-test.true in search rules)  -- mul-value
-    (λ c. let h = valuing_place c.loop-left.invariant c.loop-left-test.true in search rules)  -- shared-slice-read-value
-    (λ c. search rules)  -- sub-left
-    (λ c. search (rules, valuing_less))  -- loop-less
-    (λ c. search (rules, valuing_turn))  -- loop-again
+    (λ c. search (rules, valuing_begin))  -- loop-left-init
+    (λ c. let h = trailing_le 64 c.loop-left.left in search rules)  -- overflow_cast-value
+    (λ c. let h = valuing_place c.loop-left.invariant c.loop-left-test.true in search rules)  -- overflow_add-value
+    (λ c. let h = valuing_place c.loop-left.invariant c.loop-left-test.true in search rules)  -- offset_bounds-values-base
+    (λ c. let h = valuing_place c.loop-left.invariant c.loop-left-test.true in search rules)  -- bounds-values-base
+    (λ c. search rules)  -- overflow_sub-left
+    (λ c. search (rules, valuing_less))  -- loop-left-smaller
+    (λ c. search (rules, valuing_turn))  -- loop-left-preserved
     (λ c. search (rules, valuing_end)))

@@ -19,20 +19,20 @@ back_substitution_spec =
     (tie.spec
     invariant_loop
     decreases_loop
-    (λ c. search (rules, backing_begin))  -- loop-holds
-    (λ c. search rules)  -- sub-i
-    (λ c. search rules)  -- mul-pivot
-    (λ c. search rules)  -- shared-slice-read-pivot
-    (λ c. omega (arith, c.shared_slice_known-in-loop-i-1.given (c.loop-i.i - 1)))  -- cast-pivot
-    (λ c. let l = c in let e : l.loop-i.i - 1 + 1 ≡ l.loop-i.i = omega arith in let h = backing_constant l.loop-i.invariant (l.loop-i.i - 1) e in search rules)  -- mul-solution
-    (λ c. let l = c in let e : l.loop-i.i - 1 + 1 ≡ l.loop-i.i = omega arith in let h = backing_constant l.loop-i.invariant (l.loop-i.i - 1) e in search rules)  -- add-solution
-    (λ c. let l = c in let e : l.loop-i.i - 1 + 1 ≡ l.loop-i.i = omega arith in let h = backing_constant l.loop-i.invariant (l.loop-i.i - 1) e in search rules)  -- mul-solution-2
-    (λ c. let l = c in let e : l.loop-i.i - 1 + 1 ≡ l.loop-i.i = omega arith in let h = backing_constant l.loop-i.invariant (l.loop-i.i - 1) e in search rules)  -- shared-slice-read-solution
-    (λ c. let l = c in let e : l.loop-i.i - 1 + 1 ≡ l.loop-i.i = omega arith in let h = backing_row l.loop-i.invariant (l.loop-i.i - 1) e in search rules)  -- mul-row-value
-    (λ c κs. let l = c in let e : l.loop-i.i - 1 + 1 ≡ l.loop-i.i = omega arith in let j = l.loop-i.i - 1 in (backing_word l.loop-i.invariant j e, search rules, backing_row l.loop-i.invariant j e, backing_listed l.loop-i.invariant j e))  -- row-value-requires
-    (λ c. let l = c in let e : l.loop-i.i - 1 + 1 ≡ l.loop-i.i = omega arith in let h = backing_pivot l.loop-i.invariant (l.loop-i.i - 1) e in search rules)  -- mul-solution-3
-    (λ c. let l = c in let e : l.loop-i.i - 1 + 1 ≡ l.loop-i.i = omega arith in let h = backing_pivot l.loop-i.invariant (l.loop-i.i - 1) e in search rules)  -- slice-write-solution
-    (λ c. search rules)  -- loop-less
-    (λ c. let l = c in let e : l.loop-i.i - 1 + 1 ≡ l.loop-i.i = omega arith in backing_turn l.loop-i.invariant (l.loop-i.i - 1) e c.row_value.ensures)  -- loop-again
-    (λ c. search rules)  -- same-length
+    (λ c. search (rules, backing_begin))  -- loop-i-init
+    (λ c. search rules)  -- overflow_sub-i
+    (λ c. search rules)  -- offset_bounds-numbers-i
+    (λ c. search rules)  -- bounds-numbers-i
+    (λ c. omega (arith, c.shared_slice_known-in-loop-i-1.given (c.loop-i.i - 1)))  -- overflow_cast-pivot
+    (λ c. let e : c.loop-i.i - 1 + 1 ≡ c.loop-i.i = omega arith in let h = backing_constant c.loop-i.invariant (c.loop-i.i - 1) e in search rules)  -- overflow_mul-solution
+    (λ c. let e : c.loop-i.i - 1 + 1 ≡ c.loop-i.i = omega arith in let h = backing_constant c.loop-i.invariant (c.loop-i.i - 1) e in search rules)  -- overflow_add-solution
+    (λ c. let e : c.loop-i.i - 1 + 1 ≡ c.loop-i.i = omega arith in let h = backing_constant c.loop-i.invariant (c.loop-i.i - 1) e in search rules)  -- offset_bounds-words-m
+    (λ c. let e : c.loop-i.i - 1 + 1 ≡ c.loop-i.i = omega arith in let h = backing_constant c.loop-i.invariant (c.loop-i.i - 1) e in search rules)  -- bounds-words-m
+    (λ c. let e : c.loop-i.i - 1 + 1 ≡ c.loop-i.i = omega arith in let h = backing_row c.loop-i.invariant (c.loop-i.i - 1) e in search rules)  -- overflow_mul-i
+    (λ c κs. let e : c.loop-i.i - 1 + 1 ≡ c.loop-i.i = omega arith in let j = c.loop-i.i - 1 in (backing_word c.loop-i.invariant j e, search rules, backing_row c.loop-i.invariant j e, backing_listed c.loop-i.invariant j e))  -- row_value-requires
+    (λ c. let e : c.loop-i.i - 1 + 1 ≡ c.loop-i.i = omega arith in let h = backing_pivot c.loop-i.invariant (c.loop-i.i - 1) e in search rules)  -- offset_bounds-solution-pivot
+    (λ c. let e : c.loop-i.i - 1 + 1 ≡ c.loop-i.i = omega arith in let h = backing_pivot c.loop-i.invariant (c.loop-i.i - 1) e in search rules)  -- bounds-solution-pivot
+    (λ c. search rules)  -- loop-i-smaller
+    (λ c. let e : c.loop-i.i - 1 + 1 ≡ c.loop-i.i = omega arith in backing_turn c.loop-i.invariant (c.loop-i.i - 1) e c.row_value.ensures)  -- loop-i-preserved
+    (λ c. search rules)  -- shape_of-solution
     (λ c. search (rules, backing_end)))

@@ -17,13 +17,13 @@ constant_left_spec =
     (tie.spec
     invariant_loop
     decreases_loop
-    (λ c. search (rules, leaving_begin))  -- loop-holds
-    (λ c. search rules)  -- mul-if1
-    (λ c. search rules)  -- add-if1
-    (λ c. search rules)  -- mul-if1-2
-    (λ c. search rules)  -- shared-slice-read-if1
-    (λ c. search (rules, leaving_found))  -- returns
-    (λ c. search rules)  -- add-i
-    (λ c. search rules)  -- loop-less
-    (λ c. search (rules, leaving_turn))  -- loop-again
+    (λ c. search (rules, leaving_begin))  -- loop-i-init
+    (λ c. search rules)  -- overflow_mul-m
+    (λ c. search rules)  -- overflow_add-m
+    (λ c. search rules)  -- offset_bounds-words-m
+    (λ c. search rules)  -- bounds-words-m
+    (λ c. search (rules, leaving_found))  -- returns-then-words-m-ne0
+    (λ c. search rules)  -- overflow_step-i
+    (λ c. search rules)  -- loop-i-smaller
+    (λ c. search (rules, leaving_turn))  -- loop-i-preserved
     (λ c. search (rules, leaving_end)))

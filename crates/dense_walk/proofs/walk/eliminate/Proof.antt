@@ -16,8 +16,7 @@ decreases_loop n m w numbers₀ words₀ rank₀ col₀ numbers words rank col =
 -- what the search answered, by the arm that was taken
 take_pivot_requires : tie.Need-take_pivot-requires invariant_loop decreases_loop
 take_pivot_requires c κs =
-    let l = c in
-    let h = walking_place l.loop-col.invariant (sym c.in-At.is ∙ c.find_pivot.ensures) in
+    let h = walking_place c.loop-col.invariant (sym c.in-At.is ∙ c.find_pivot.ensures) in
     search rules
 
 loop_again_2 : tie.Need-loop-col-preserved invariant_loop decreases_loop
@@ -31,24 +30,24 @@ eliminate_spec =
     (tie.spec
     invariant_loop
     decreases_loop
-    (λ c. search (rules, walking_begin))  -- loop-holds
-    (λ c κs. search rules)  -- find-pivot-requires
-    (λ c. search rules)  -- enum-known-pivot
-    (λ c. search rules)  -- enum_told
-    (λ c. search rules)  -- add-col
-    (λ c. search rules)  -- loop-less
-    (λ c. walking_skip c.loop-col.invariant c.loop-col-test.true (search rules) (sym c.in_default.is ∙ c.find_pivot.ensures))  -- loop-again
+    (λ c. search (rules, walking_begin))  -- loop-col-init
+    (λ c κs. search rules)  -- find_pivot-requires
+    (λ c. search rules)  -- enum_known-pivot
+    (λ c. search rules)  -- enum_told-1
+    (λ c. search rules)  -- overflow_step-col
+    (λ c. search rules)  -- loop-col-smaller-in_default
+    (λ c. walking_skip c.loop-col.invariant c.loop-col-test.true (search rules) (sym c.in_default.is ∙ c.find_pivot.ensures))  -- loop-col-preserved-in_default
     take_pivot_requires
-    (λ c. search rules)  -- cast-numbers
-    (λ c. search rules)  -- mul-numbers
-    (λ c. search rules)  -- slice-write-numbers
-    (λ c. search rules)  -- add-rank
-    (λ c. search rules)  -- add-col-2
-    (λ c. search rules)  -- loop-less-2
+    (λ c. search rules)  -- overflow_cast-numbers
+    (λ c. search rules)  -- offset_bounds-numbers-rank
+    (λ c. search rules)  -- bounds-numbers-rank
+    (λ c. search rules)  -- overflow_add-rank
+    (λ c. search rules)  -- overflow_step-col-in-loop-col
+    (λ c. search rules)  -- loop-col-smaller
     loop_again_2
-    (λ c. search rules)  -- same-length
-    (λ c. search rules)  -- same-length-2
-    (λ c. walking_end c.loop-col.invariant (inl c.loop-col-test.false))  -- returns
-    (λ c. search rules)  -- same-length-3
-    (λ c. search rules)  -- same-length-4
+    (λ c. search rules)  -- shape_of-numbers-after-loop-col
+    (λ c. search rules)  -- shape_of-words-after-loop-col
+    (λ c. walking_end c.loop-col.invariant (inl c.loop-col-test.false))  -- returns-after-loop-col
+    (λ c. search rules)  -- shape_of-numbers-then-rank-m
+    (λ c. search rules)  -- shape_of-words-then-rank-m
     (λ c. walking_end c.loop-col.invariant (inr (search rules))))

@@ -18,13 +18,13 @@ increasing_spec =
     (tie.spec
     invariant_loop
     decreases_loop
-    (λ c. search (rules, passed_none))  -- returns
-    (λ c. search rules)  -- shared-slice-read-prev
-    (λ c. search (rules, passed_first))  -- loop-holds
-    (λ c. search rules)  -- mul-x
-    (λ c. search rules)  -- shared-slice-read-x
-    (λ c. search (rules, passed_stop))  -- returns-2
-    (λ c. search rules)  -- add-i
-    (λ c. search rules)  -- loop-less
-    (λ c. search (rules, passed_next))  -- loop-again
+    (λ c. search (rules, passed_none))  -- returns-then-s-eq0
+    (λ c. search rules)  -- bounds-s-0
+    (λ c. search (rules, passed_first))  -- loop-i-init
+    (λ c. search rules)  -- offset_bounds-s-i
+    (λ c. search rules)  -- bounds-s-i
+    (λ c. search (rules, passed_stop))  -- returns-then-x-prev
+    (λ c. search rules)  -- overflow_add-i
+    (λ c. search rules)  -- loop-i-smaller
+    (λ c. search (rules, passed_next))  -- loop-i-preserved
     (λ c. search (rules, passed_end)))

@@ -9,35 +9,31 @@ use Rattle.equation.proofs.merge.add_ptr.Tie as tie
 
 returns : tie.Need-returns
 returns c =
-    let k2 = c in
-    let k1 = k2 in
-    let m = k1 in
-    let s = m in
-    let e = m.merge-p.ensures.0 in
-    let short = length-sym_diff-le s.args.left.now s.args.right.now in (
+    let e = c.merge-p.ensures.0 in
+    let short = length-sym_diff-le c.args.left.now c.args.right.now in (
       e.size,
-      gather s.args.out.now 0 e (omega (arith, s.requires)) m.merge-p.ensures.1 (part_from s.args.left.now m.merge-p.result.left) (omega arith) k1.copy_numbers.ensures
-          (part_from s.args.right.now m.merge-p.result.right) refl k2.copy_numbers-2.ensures,
+      gather c.args.out.now 0 e (omega (arith, c.requires)) c.merge-p.ensures.1 (part_from c.args.left.now c.merge-p.result.left) (omega arith) c.copy_numbers.ensures
+          (part_from c.args.right.now c.merge-p.result.right) refl c.copy_numbers-2.ensures,
     )
 
 pub add_ptr_spec : {M : Type 1} → statement M
 add_ptr_spec =
     tie.close
     (tie.spec
-    (λ c κs. search rules)  -- merge-requires
-    (λ c. search rules)  -- mul-copy-numbers
-    (λ c. search rules)  -- sub-copy-numbers
-    (λ c. search rules)  -- part-copy-numbers-start
-    (λ c. search rules)  -- part-copy-numbers-end
-    (λ c κs. let h = ended_short c.merge-p.ensures.0 in search rules)  -- copy-numbers-requires
-    (λ c. search rules)  -- sub-e
-    (λ c. let h = ended_short c.merge-p.ensures.0 in search rules)  -- add-e
-    (λ c. search rules)  -- mul-copy-numbers-2
-    (λ c. search rules)  -- sub-copy-numbers-2
-    (λ c. search rules)  -- part-copy-numbers-start-2
-    (λ c. search rules)  -- part-copy-numbers-end-2
-    (λ c κs. let h = ended_short c.merge-p.ensures.0 in search rules)  -- copy-numbers-requires-2
-    (λ c. search rules)  -- sub-result
-    (λ c. let h = ended_short c.merge-p.ensures.0 in search rules)  -- add-result
-    (λ c. search rules)  -- same-length
+    (λ c κs. search rules)  -- merge-p-requires
+    (λ c. search rules)  -- offset_bounds-left-i
+    (λ c. search rules)  -- slice_bounds-copy_numbers-count
+    (λ c. search rules)  -- slice_bounds-copy_numbers-start
+    (λ c. search rules)  -- slice_bounds-copy_numbers-end
+    (λ c κs. let h = ended_short c.merge-p.ensures.0 in search rules)  -- copy_numbers-requires
+    (λ c. search rules)  -- overflow_sub-e
+    (λ c. let h = ended_short c.merge-p.ensures.0 in search rules)  -- overflow_add-e
+    (λ c. search rules)  -- offset_bounds-right-j
+    (λ c. search rules)  -- slice_bounds-copy_numbers-count-2
+    (λ c. search rules)  -- slice_bounds-copy_numbers-start-2
+    (λ c. search rules)  -- slice_bounds-copy_numbers-end-2
+    (λ c κs. let h = ended_short c.merge-p.ensures.0 in search rules)  -- copy_numbers-requires-2
+    (λ c. search rules)  -- overflow_sub-result
+    (λ c. let h = ended_short c.merge-p.ensures.0 in search rules)  -- overflow_add-result
+    (λ c. search rules)  -- shape_of-out
     returns)

@@ -43,28 +43,28 @@ merge_spec =
     (tie.spec
     invariant_loop
     decreases_loop
-    (λ c. merged_begin _ _ _ _ (omega (arith, length-sym_diff-le c.args.left.now c.args.right.now, c.requires)))  -- loop-holds
-    (λ c. search rules)  -- mul-l
-    (λ c. search rules)  -- shared-slice-read-l
-    (λ c. omega (arith, ltb-true))  -- mul-r
-    (λ c. search rules)  -- shared-slice-read-r
-    (λ c. let h = low c in search rules)  -- mul-out
-    (λ c. let h = low c in search rules)  -- slice-write-out
-    (λ c. search rules)  -- add-i
-    (λ c. let h = low c in search rules)  -- add-d
-    (λ c. search rules)  -- loop-less
-    (λ c. rw (zero-add _) at (on_less c.loop-i.invariant (search rules) (omega (arith, ltb-true)) c.if-l-r.true))  -- loop-again
-    (λ c. let h = low_2 c in search rules)  -- mul-out-2
-    (λ c. let h = low_2 c in search rules)  -- slice-write-out-2
-    (λ c. omega (arith, ltb-true))  -- add-j
-    (λ c. let h = low_2 c in search rules)  -- add-d-2
-    (λ c. omega (arith, ltb-true))  -- loop-less-2
-    (λ c. rw (zero-add _) at (on_more c.loop-i.invariant (search rules) (omega (arith, ltb-true)) c.if-r-l.true))  -- loop-again-2
-    (λ c. search rules)  -- add-i-2
-    (λ c. omega (arith, ltb-true))  -- add-j-2
-    (λ c. omega (arith, ltb-true))  -- loop-less-3
-    (λ c. on_both c.loop-i.invariant (search rules) (omega (arith, ltb-true)) (omega (arith, c.if-l-r.false, c.if-r-l.false)))  -- loop-again-3
-    (λ c. search rules)  -- same-length
+    (λ c. merged_begin _ _ _ _ (omega (arith, length-sym_diff-le c.args.left.now c.args.right.now, c.requires)))  -- loop-i-init
+    (λ c. search rules)  -- offset_bounds-left-i
+    (λ c. search rules)  -- bounds-left-i
+    (λ c. omega (arith, ltb-true))  -- offset_bounds-right-j
+    (λ c. search rules)  -- bounds-right-j
+    (λ c. let h = low c in search rules)  -- offset_bounds-out-d
+    (λ c. let h = low c in search rules)  -- bounds-out-d
+    (λ c. search rules)  -- overflow_add-i
+    (λ c. let h = low c in search rules)  -- overflow_add-d
+    (λ c. search rules)  -- loop-i-smaller-then-l-r
+    (λ c. rw (zero-add _) at (on_less c.loop-i.invariant (search rules) (omega (arith, ltb-true)) c.if-l-r.true))  -- loop-i-preserved-then-l-r
+    (λ c. let h = low_2 c in search rules)  -- offset_bounds-out-d-then-r-l
+    (λ c. let h = low_2 c in search rules)  -- bounds-out-d-then-r-l
+    (λ c. omega (arith, ltb-true))  -- overflow_add-j
+    (λ c. let h = low_2 c in search rules)  -- overflow_add-d-then-r-l
+    (λ c. omega (arith, ltb-true))  -- loop-i-smaller-then-r-l
+    (λ c. rw (zero-add _) at (on_more c.loop-i.invariant (search rules) (omega (arith, ltb-true)) c.if-r-l.true))  -- loop-i-preserved-then-r-l
+    (λ c. search rules)  -- overflow_add-i-else-r-l
+    (λ c. omega (arith, ltb-true))  -- overflow_add-j-else-r-l
+    (λ c. omega (arith, ltb-true))  -- loop-i-smaller
+    (λ c. on_both c.loop-i.invariant (search rules) (omega (arith, ltb-true)) (omega (arith, c.if-l-r.false, c.if-r-l.false)))  -- loop-i-preserved
+    (λ c. search rules)  -- shape_of-out-else-j-right
     returns
-    (λ c. search rules)  -- same-length-2
+    (λ c. search rules)  -- shape_of-out-after-loop-i
     returns_2)

@@ -13,9 +13,9 @@ pub orohkaril_slow_spec : {M : Type 1} → statement M
 orohkaril_slow_spec =
     tie.close
     (tie.spec
-    (λ c κs. search rules)  -- slow-gaussian-elimination-requires
+    (λ c κs. search rules)  -- slow_gaussian_elimination-answer-requires
     (λ c κs. search rules)  -- tell-requires
-    (λ c. search rules)  -- same-length
-    (λ c. search rules)  -- same-length-2
-    (λ c. search rules)  -- same-length-3
+    (λ c. search rules)  -- shape_of-solution
+    (λ c. search rules)  -- shape_of-numbers
+    (λ c. search rules)  -- shape_of-words
     returns)

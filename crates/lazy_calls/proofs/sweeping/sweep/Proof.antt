@@ -21,12 +21,12 @@ pub sweep_spec : {M : Type 1} → statement M
 sweep_spec =
     tie.close
     (tie.spec
-    (λ c. search rules)  -- mul-end
-    (λ c. search rules)  -- add-end
+    (λ c. search rules)  -- overflow_mul-end
+    (λ c. search rules)  -- overflow_add-end
     empty_rows_requires
-    (λ c κs. search rules)  -- zero-numbers-requires
+    (λ c κs. search rules)  -- zero_numbers-requires
     add_empty_rows
     empty_rows_requires_2
-    (λ c κs. search rules)  -- zero-numbers-requires-2
-    (λ c. search rules)  -- same-length
+    (λ c κs. search rules)  -- zero_numbers-requires-2
+    (λ c. search rules)  -- shape_of-numbers
     returns)

@@ -54,7 +54,7 @@ build_spec =
     of_requires
     run_units_requires
     sweep_requires
-    (λ c κs. search rules)  -- zero-words-requires
+    (λ c κs. search rules)  -- zero_words-requires
     same_length
     same_length_2
     same_length_3

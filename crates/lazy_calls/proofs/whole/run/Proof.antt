@@ -32,11 +32,9 @@ build_requires c κs =
 
 returns : tie.Need-returns
 returns c =
-    let s = c in
-    let b = c in
-    let l = b.build.new in let e = b.build.ensures in
-    let q = ends _ _ _ l.solution _ _ _ _ (room_zero _ _ _ s.args.numbers.now b.lazy_numbers-kn.ensures s.requires.2 e.1.0) (room_zero _ _ _ s.args.words.now b.lazy_words-kw.ensures s.requires.3 e.1.1.0)
-    (lazy_answer s.args.n s.args.m s.args.starts.now s.args.vars.now s.args.constants.now) _ e.0 in
+    let l = c.build.new in let e = c.build.ensures in
+    let q = ends _ _ _ l.solution _ _ _ _ (room_zero _ _ _ c.args.numbers.now c.lazy_numbers-kn.ensures c.requires.2 e.1.0) (room_zero _ _ _ c.args.words.now c.lazy_words-kw.ensures c.requires.3 e.1.1.0)
+    (lazy_answer c.args.n c.args.m c.args.starts.now c.args.vars.now c.args.constants.now) _ e.0 in
     (q.0, (q.1.0, (q.1.1.0, (q.1.1.1, e.1.1.1))))
 
 pub run_spec : {M : Type 1} → statement M
@@ -50,7 +48,7 @@ run_spec =
     slice_relend_prefix_build_2
     slice_aggregate_build_2
     build_requires
-    (λ c. search rules)  -- same-length
-    (λ c. search rules)  -- same-length-2
-    (λ c. search rules)  -- same-length-3
+    (λ c. search rules)  -- shape_of-solution
+    (λ c. search rules)  -- shape_of-numbers
+    (λ c. search rules)  -- shape_of-words
     returns)

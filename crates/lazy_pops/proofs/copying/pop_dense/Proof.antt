@@ -56,5 +56,5 @@ pop_dense_spec =
     returns
     mul_if2
     slice_read_if2
-    (λ c sys s es a. pop_clash a c.if-len-ne0.false (search rules))  -- returns-then
+    (λ c sys s es a. pop_clash a c.if-len-ne0.false (search rules))  -- returns-then-words-e-ne0
     returns_2)

@@ -27,17 +27,17 @@ pub lower_spec : {M : Type 1} → statement M
 lower_spec =
     tie.close
     (tie.spec
-    (λ c. search rules)  -- add-at
-    (λ c. search rules)  -- mul-p
-    (λ c. search rules)  -- slice-read-p
-    (λ c. search rules)  -- sub-numbers
-    (λ c. search rules)  -- mul-numbers
-    (λ c. search rules)  -- slice-write-numbers
-    (λ c. search rules)  -- same-length
+    (λ c. search rules)  -- overflow_add-at
+    (λ c. search rules)  -- offset_bounds-numbers-at
+    (λ c. search rules)  -- bounds-numbers-at
+    (λ c. search rules)  -- overflow_sub-numbers
+    (λ c. search rules)  -- offset_bounds-numbers-at-2
+    (λ c. search rules)  -- bounds-numbers-at-2
+    (λ c. search rules)  -- shape_of-numbers-then-p-ne2
     returns
     add_numbers
     mul_numbers_2
     slice_write_numbers_2
     add_result
-    (λ c. search rules)  -- same-length-2
+    (λ c. search rules)  -- shape_of-numbers
     returns_2)

@@ -40,13 +40,13 @@ lower_in_spec =
     invariant_loop
     decreases_loop
     loop_holds
-    (λ c. search rules)  -- add-e
-    (λ c. search rules)  -- mul-e
-    (λ c. search rules)  -- slice-read-e
+    (λ c. search rules)  -- overflow_add-e
+    (λ c. search rules)  -- offset_bounds-numbers-list
+    (λ c. search rules)  -- bounds-numbers-list
     cast_if1
     lower_requires
-    (λ c. search rules)  -- add-k
-    (λ c. search rules)  -- loop-less
+    (λ c. search rules)  -- overflow_add-k
+    (λ c. search rules)  -- loop-k-smaller
     loop_again
-    (λ c. search rules)  -- same-length
+    (λ c. search rules)  -- shape_of-numbers
     returns)

@@ -88,8 +88,8 @@ add_listed_spec =
     cast_f
     add_row_requires
     add_cancelled
-    (λ c. search rules)  -- add-k
-    (λ c. search rules)  -- loop-less
+    (λ c. search rules)  -- overflow_add-k
+    (λ c. search rules)  -- loop-k-smaller
     loop_again
     same_length
     same_length_2

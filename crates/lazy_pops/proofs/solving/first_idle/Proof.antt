@@ -42,15 +42,15 @@ first_idle_spec =
     invariant_loop
     decreases_loop
     loop_holds
-    (λ c. search rules)  -- add-v
-    (λ c. search rules)  -- mul-v
-    (λ c. search rules)  -- shared-slice-read-v
+    (λ c. search rules)  -- overflow_add-v
+    (λ c. search rules)  -- offset_bounds-numbers-row
+    (λ c. search rules)  -- bounds-numbers-row
     cast_if1
     add_if1
     mul_if1
     shared_slice_read_if1
     returns
-    (λ c. search rules)  -- add-k
-    (λ c. search rules)  -- loop-less
+    (λ c. search rules)  -- overflow_add-k
+    (λ c. search rules)  -- loop-k-smaller
     loop_again
     returns_2)

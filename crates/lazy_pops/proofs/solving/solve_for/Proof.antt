@@ -71,10 +71,10 @@ solve_for_spec =
     mul_first_idle
     first_idle_requires
     record_solved_requires
-    (λ c. search rules)  -- cast-add-to-others
+    (λ c. search rules)  -- overflow_cast-v
     add_to_others_requires
     add_next
-    (λ c. search rules)  -- cast-lower-listed
+    (λ c. search rules)  -- overflow_cast-v-2
     lower_listed_requires
     same_length
     same_length_2

@@ -55,5 +55,5 @@ lower_listed_spec =
     add_lower_in
     sub_lower_in
     lower_in_requires
-    (λ c. search rules)  -- same-length
+    (λ c. search rules)  -- shape_of-numbers
     returns)

@@ -71,7 +71,7 @@ pop_variable_spec =
     add_weight
     mul_if1
     slice_read_if1
-    (λ c. search rules)  -- same-length
+    (λ c. search rules)  -- shape_of-numbers-then-numbers-weight-eq0
     returns
     add_idle
     mul_numbers_2

@@ -14,19 +14,19 @@ pub of_spec : {M : Type 1} → statement M
 of_spec =
     tie.close
     (tie.spec
-    (λ c. let h = cells_fit _ _ c.requires.0 c.requires.1 in search rules)  -- mul-lengths
-    (λ c. let h = cells_fit _ _ c.requires.0 c.requires.1 in search rules)  -- add-lists
-    (λ c. let h = cells_fit _ _ c.requires.0 c.requires.1 in search rules)  -- add-starts
-    (λ c. let h = cells_fit _ _ c.requires.0 c.requires.1 in search rules)  -- add-weight
-    (λ c. let h = cells_fit _ _ c.requires.0 c.requires.1 in search rules)  -- add-weight-2
-    (λ c. let h = cells_fit _ _ c.requires.0 c.requires.1 in search rules)  -- add-variables
-    (λ c. let h = cells_fit _ _ c.requires.0 c.requires.1 in search rules)  -- add-idle
-    (λ c. let h = cells_fit _ _ c.requires.0 c.requires.1 in search rules)  -- add-position
-    (λ c. let h = cells_fit _ _ c.requires.0 c.requires.1 in search rules)  -- add-priority
-    (λ c. let h = cells_fit _ _ c.requires.0 c.requires.1 in search rules)  -- add-equations
-    (λ c. let h = cells_fit _ _ c.requires.0 c.requires.1 in search rules)  -- add-solved
-    (λ c. let h = cells_fit _ _ c.requires.0 c.requires.1 in search rules)  -- add-pivots
-    (λ c. let h = cells_fit _ _ c.requires.0 c.requires.1 in search rules)  -- add-count
-    (λ c. let h = cells_fit _ _ c.requires.0 c.requires.1 in search rules)  -- add-dense
-    (λ c. let h = cells_fit _ _ c.requires.0 c.requires.1 in search rules)  -- add-dense-2
+    (λ c. let h = cells_fit _ _ c.requires.0 c.requires.1 in search rules)  -- overflow_mul-lengths
+    (λ c. let h = cells_fit _ _ c.requires.0 c.requires.1 in search rules)  -- overflow_add-lists
+    (λ c. let h = cells_fit _ _ c.requires.0 c.requires.1 in search rules)  -- overflow_add-starts
+    (λ c. let h = cells_fit _ _ c.requires.0 c.requires.1 in search rules)  -- overflow_add-weight
+    (λ c. let h = cells_fit _ _ c.requires.0 c.requires.1 in search rules)  -- overflow_add-weight-2
+    (λ c. let h = cells_fit _ _ c.requires.0 c.requires.1 in search rules)  -- overflow_add-variables
+    (λ c. let h = cells_fit _ _ c.requires.0 c.requires.1 in search rules)  -- overflow_add-idle
+    (λ c. let h = cells_fit _ _ c.requires.0 c.requires.1 in search rules)  -- overflow_add-position
+    (λ c. let h = cells_fit _ _ c.requires.0 c.requires.1 in search rules)  -- overflow_add-priority
+    (λ c. let h = cells_fit _ _ c.requires.0 c.requires.1 in search rules)  -- overflow_add-equations
+    (λ c. let h = cells_fit _ _ c.requires.0 c.requires.1 in search rules)  -- overflow_add-solved
+    (λ c. let h = cells_fit _ _ c.requires.0 c.requires.1 in search rules)  -- overflow_add-pivots
+    (λ c. let h = cells_fit _ _ c.requires.0 c.requires.1 in search rules)  -- overflow_add-count
+    (λ c. let h = cells_fit _ _ c.requires.0 c.requires.1 in search rules)  -- overflow_add-dense
+    (λ c. let h = cells_fit _ _ c.requires.0 c.requires.1 in search rules)  -- overflow_add-dense-2
     returns)

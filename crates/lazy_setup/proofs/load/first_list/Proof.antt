@@ -28,19 +28,19 @@ first_list_spec =
     (tie.spec
     invariant_loop
     decreases_loop
-    (λ c. listing_begin _ _ _ _ c.requires.1 c.requires.2)  -- loop-holds
-    (λ c. search rules)  -- sub-i
-    (λ c. search rules)  -- add-if1
-    (λ c. search rules)  -- mul-if1
-    (λ c. search rules)  -- slice-read-if1
-    (λ c. search rules)  -- cast-numbers
+    (λ c. listing_begin _ _ _ _ c.requires.1 c.requires.2)  -- loop-i-init
+    (λ c. search rules)  -- overflow_sub-i
+    (λ c. search rules)  -- overflow_add-priority
+    (λ c. search rules)  -- offset_bounds-numbers-priority
+    (λ c. search rules)  -- bounds-numbers-priority
+    (λ c. search rules)  -- overflow_cast-numbers
     add_numbers
     mul_numbers
     slice_write_numbers
     add_top
-    (λ c. search rules)  -- loop-less
-    (λ c. listing_push c.loop-i.invariant c.loop-i-test.true (search rules))  -- loop-again
-    (λ c. search rules)  -- loop-less-2
-    (λ c. listing_pass c.loop-i.invariant c.loop-i-test.true (search rules))  -- loop-again-2
-    (λ c. search rules)  -- same-length
+    (λ c. search rules)  -- loop-i-smaller-then-numbers-priority-le1
+    (λ c. listing_push c.loop-i.invariant c.loop-i-test.true (search rules))  -- loop-i-preserved-then-numbers-priority-le1
+    (λ c. search rules)  -- loop-i-smaller
+    (λ c. listing_pass c.loop-i.invariant c.loop-i-test.true (search rules))  -- loop-i-preserved
+    (λ c. search rules)  -- shape_of-numbers
     (λ c. listing_end c.loop-i.invariant c.loop-i-test.false))

@@ -10,21 +10,21 @@ use Rattle.lazy_setup.proofs.load.load.Statement.{statement}
 use Rattle.lazy_setup.proofs.load.load.Tie as tie
 
 write_lengths_requires : tie.Need-write_lengths-requires
-write_lengths_requires c κs = let s = c in let f = s.requires.0.0 in (f.few_equations, f.starts_long, λ i h. f.climbing i (i + 1) (omega arith) (omega arith), search rules)
+write_lengths_requires c κs = let f = c.requires.0.0 in (f.few_equations, f.starts_long, λ i h. f.climbing i (i + 1) (omega arith) (omega arith), search rules)
 
 write_lengths_requires_2 : tie.Need-write_lengths-requires-2
-write_lengths_requires_2 c κs = let s = c in let f = s.requires.0.0 in (f.few_equations, f.starts_long, λ i h. f.climbing i (i + 1) (omega arith) (omega arith), search rules)
+write_lengths_requires_2 c κs = let f = c.requires.0.0 in (f.few_equations, f.starts_long, λ i h. f.climbing i (i + 1) (omega arith) (omega arith), search rules)
 
 returns : tie.Need-returns
-returns c = let s = c in c.mark.ensures ∙ ap (put s.args.idle (replicate s.args.n 1)) (c.write_lengths-2.ensures ∙ ap (put s.args.priority (spans s.args.m s.args.starts.now)) (c.write_lengths.ensures ∙ ap (put s.args.lengths (spans s.args.m s.args.starts.now)) c.load_rows.ensures))
+returns c = c.mark.ensures ∙ ap (put c.args.idle (replicate c.args.n 1)) (c.write_lengths-2.ensures ∙ ap (put c.args.priority (spans c.args.m c.args.starts.now)) (c.write_lengths.ensures ∙ ap (put c.args.lengths (spans c.args.m c.args.starts.now)) c.load_rows.ensures))
 
 pub load_spec : {M : Type 1} → statement M
 load_spec =
     tie.close
     (tie.spec
-    (λ c κs. search rules)  -- load-rows-requires
+    (λ c κs. search rules)  -- load_rows-requires
     write_lengths_requires
     write_lengths_requires_2
     (λ c κs. search rules)  -- mark-requires
-    (λ c. search rules)  -- same-length
+    (λ c. search rules)  -- shape_of-numbers
     returns)

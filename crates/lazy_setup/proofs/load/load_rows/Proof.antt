@@ -52,13 +52,13 @@ load_rows_spec =
     invariant_loop
     decreases_loop
     loop_holds
-    (λ c. let h = loading_fits c.loop-i.invariant c.loop-i-test.true in search rules)  -- mul-from
-    (λ c. let h = loading_fits c.loop-i.invariant c.loop-i-test.true in search rules)  -- shared-slice-read-from
-    (λ c. omega (arith, c.shared_slice_known-in-loop-i-1.given c.loop-i.i))  -- cast-from
-    (λ c. let h = loading_fits c.loop-i.invariant c.loop-i-test.true in search rules)  -- add-to
-    (λ c. let h = loading_fits c.loop-i.invariant c.loop-i-test.true in search rules)  -- mul-to
+    (λ c. let h = loading_fits c.loop-i.invariant c.loop-i-test.true in search rules)  -- offset_bounds-starts-i
+    (λ c. let h = loading_fits c.loop-i.invariant c.loop-i-test.true in search rules)  -- bounds-starts-i
+    (λ c. omega (arith, c.shared_slice_known-in-loop-i-1.given c.loop-i.i))  -- overflow_cast-from
+    (λ c. let h = loading_fits c.loop-i.invariant c.loop-i-test.true in search rules)  -- overflow_add-to
+    (λ c. let h = loading_fits c.loop-i.invariant c.loop-i-test.true in search rules)  -- offset_bounds-starts-i-in-loop-i
     shared_slice_read_to
-    (λ c. omega (arith, c.shared_slice_known-in-loop-i-2-1.given (c.loop-i.i + 1)))  -- cast-to
+    (λ c. omega (arith, c.shared_slice_known-in-loop-i-2-1.given (c.loop-i.i + 1)))  -- overflow_cast-to
     mul_copy_numbers
     sub_copy_numbers
     part_copy_numbers_start
@@ -68,5 +68,5 @@ load_rows_spec =
     add_i
     loop_less
     loop_again
-    (λ c. search rules)  -- same-length
+    (λ c. search rules)  -- shape_of-numbers
     (λ c. loading_end c.loop-i.invariant c.loop-i-test.false))

@@ -34,17 +34,17 @@ write_lengths_spec =
     invariant_loop
     decreases_loop
     loop_holds
-    (λ c. search rules)  -- add-numbers
-    (λ c. search rules)  -- mul-numbers
-    (λ c. search rules)  -- shared-slice-read-numbers
-    (λ c. search rules)  -- mul-numbers-2
-    (λ c. search rules)  -- shared-slice-read-numbers-2
+    (λ c. search rules)  -- overflow_add-numbers
+    (λ c. search rules)  -- offset_bounds-starts-i
+    (λ c. search rules)  -- bounds-starts-i
+    (λ c. search rules)  -- offset_bounds-starts-i-in-loop-i
+    (λ c. search rules)  -- bounds-starts-i-in-loop-i
     sub_numbers
-    (λ c. search rules)  -- add-numbers-2
-    (λ c. search rules)  -- mul-numbers-3
-    (λ c. search rules)  -- slice-write-numbers
-    (λ c. search rules)  -- add-i
-    (λ c. search rules)  -- loop-less
+    (λ c. search rules)  -- overflow_add-numbers-in-loop-i
+    (λ c. search rules)  -- offset_bounds-numbers-at
+    (λ c. search rules)  -- bounds-numbers-at
+    (λ c. search rules)  -- overflow_add-i
+    (λ c. search rules)  -- loop-i-smaller
     loop_again
-    (λ c. search rules)  -- same-length
+    (λ c. search rules)  -- shape_of-numbers
     returns)

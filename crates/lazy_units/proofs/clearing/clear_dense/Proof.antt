@@ -13,15 +13,15 @@ pub clear_dense_spec : {M : Type 1} → statement M
 clear_dense_spec =
     tie.close
     (tie.spec
-    (λ c. search rules)  -- mul-outer-row
-    (λ c. search rules)  -- sub-outer-row
-    (λ c. search rules)  -- part-outer-row-start
-    (λ c. search rules)  -- part-outer-row-end
-    (λ c. search rules)  -- mul-outer-row-2
-    (λ c. search rules)  -- sub-outer-row-2
-    (λ c. search rules)  -- part-outer-row-start-2
-    (λ c. search rules)  -- part-outer-row-end-2
+    (λ c. search rules)  -- offset_bounds-numbers-dense
+    (λ c. search rules)  -- slice_bounds-outer_row-count
+    (λ c. search rules)  -- slice_bounds-outer_row-start
+    (λ c. search rules)  -- slice_bounds-outer_row-end
+    (λ c. search rules)  -- offset_bounds-words-m
+    (λ c. search rules)  -- slice_bounds-outer_row-count-2
+    (λ c. search rules)  -- slice_bounds-outer_row-start-2
+    (λ c. search rules)  -- slice_bounds-outer_row-end-2
     outer_row_requires
-    (λ c. search rules)  -- same-length
-    (λ c. search rules)  -- same-length-2
+    (λ c. search rules)  -- shape_of-numbers
+    (λ c. search rules)  -- shape_of-words
     returns)

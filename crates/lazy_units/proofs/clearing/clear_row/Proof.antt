@@ -33,8 +33,8 @@ clear_row_spec =
     tie.close
     (tie.spec
     clear_dense_requires
-    (λ c. search rules)  -- enum_told
-    (λ c. search rules)  -- enum-told-2
+    (λ c. search rules)  -- enum_told-1
+    (λ c. search rules)  -- enum_told-in-Reduced
     add_next
     same_length
     same_length_2

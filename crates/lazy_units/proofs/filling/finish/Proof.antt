@@ -60,8 +60,8 @@ finish_spec =
     part_finish_rows_start_2
     part_finish_rows_end_2
     finish_rows_requires
-    (λ c. search rules)  -- enum_told
-    (λ c. search rules)  -- enum-told-2
+    (λ c. search rules)  -- enum_told-1
+    (λ c. search rules)  -- enum_told-in-Reduced
     fill_solved_requires
     same_length
     returns

@@ -91,15 +91,15 @@ run_units_spec =
     loop_holds
     unit_requires
     add_cancelled
-    (λ c. search rules)  -- enum-known-step
+    (λ c. search rules)  -- enum_known-step
     loop_less
     loop_again
-    (λ c. search rules)  -- enum_told
+    (λ c. search rules)  -- enum_told-1
     same_length
     same_length_2
     same_length_3
     returns
-    (λ c. search rules)  -- enum-told-2
+    (λ c. search rules)  -- enum_told-in-Unsolvable
     same_length_4
     same_length_5
     same_length_6

@@ -54,7 +54,7 @@ unit_spec =
     same_length_4
     returns_2
     finish_requires
-    (λ c. search rules)  -- same-length-5
-    (λ c. search rules)  -- same-length-6
+    (λ c. search rules)  -- shape_of-numbers
+    (λ c. search rules)  -- shape_of-words
     same_length_7
     returns_3)

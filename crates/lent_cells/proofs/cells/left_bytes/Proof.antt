@@ -35,11 +35,11 @@ left_bytes_spec =
     invariant_loop
     decreases_loop
     loop_holds
-    (λ c. search rules)  -- shared-slice-read-wide-byte
-    (λ c κs. search rules)  -- wide-byte-requires
-    (λ c κs. search rules)  -- left-at-requires
+    (λ c. search rules)  -- bounds-cells-i
+    (λ c κs. search rules)  -- wide_byte-requires
+    (λ c κs. search rules)  -- left_at-requires
     returns
-    (λ c. search rules)  -- add-i
-    (λ c. search rules)  -- loop-less
+    (λ c. search rules)  -- overflow_add-i
+    (λ c. search rules)  -- loop-i-smaller
     loop_again
     returns_2)

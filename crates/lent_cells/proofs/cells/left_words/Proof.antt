@@ -33,11 +33,11 @@ left_words_spec =
     invariant_loop
     decreases_loop
     loop_holds
-    (λ c. search rules)  -- mul-if1
-    (λ c. search rules)  -- shared-slice-read-if1
-    (λ c κs. search rules)  -- left-at-requires
+    (λ c. search rules)  -- offset_bounds-cells-i
+    (λ c. search rules)  -- bounds-cells-i
+    (λ c κs. search rules)  -- left_at-requires
     returns
-    (λ c. search rules)  -- add-i
-    (λ c. search rules)  -- loop-less
+    (λ c. search rules)  -- overflow_add-i
+    (λ c. search rules)  -- loop-i-smaller
     loop_again
     returns_2)

@@ -17,11 +17,11 @@ mark_words_spec =
     (tie.spec
     invariant_loop
     decreases_loop
-    (λ c. search (rules, marking_begin))  -- loop-holds
-    (λ c. search rules)  -- mul-words
-    (λ c. search rules)  -- slice-write-words
-    (λ c. search rules)  -- add-i
-    (λ c. search rules)  -- loop-less
-    (λ c. search (rules, marking_turn))  -- loop-again
-    (λ c. search rules)  -- same-length
+    (λ c. search (rules, marking_begin))  -- loop-i-init
+    (λ c. search rules)  -- offset_bounds-words-i
+    (λ c. search rules)  -- bounds-words-i
+    (λ c. search rules)  -- overflow_add-i
+    (λ c. search rules)  -- loop-i-smaller
+    (λ c. search (rules, marking_turn))  -- loop-i-preserved
+    (λ c. search rules)  -- shape_of-words
     (λ c. search (rules, marking_end)))

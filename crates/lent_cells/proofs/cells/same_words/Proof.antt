@@ -34,12 +34,12 @@ same_words_spec =
     decreases_loop
     returns
     loop_holds
-    (λ c. search rules)  -- mul-if2
-    (λ c. search rules)  -- shared-slice-read-if2
-    (λ c. search rules)  -- mul-if2-2
-    (λ c. search rules)  -- shared-slice-read-if2-2
+    (λ c. search rules)  -- offset_bounds-a-i
+    (λ c. search rules)  -- bounds-a-i
+    (λ c. search rules)  -- offset_bounds-b-i
+    (λ c. search rules)  -- bounds-b-i
     returns_2
-    (λ c. search rules)  -- add-i
-    (λ c. search rules)  -- loop-less
+    (λ c. search rules)  -- overflow_add-i
+    (λ c. search rules)  -- loop-i-smaller
     loop_again
     returns_3)

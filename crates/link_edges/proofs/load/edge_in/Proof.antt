@@ -10,13 +10,13 @@ pub edge_in_spec : {M : Type 1} → statement M
 edge_in_spec =
     tie.close
     (tie.spec
-    (λ c κs. search rules)  -- vertex-in-requires
-    (λ c. search rules)  -- add-vertex-in
-    (λ c κs. search rules)  -- vertex-in-requires-2
-    (λ c. search rules)  -- mul-vertex-in
-    (λ c. search rules)  -- add-vertex-in-2
-    (λ c κs. search rules)  -- vertex-in-requires-3
-    (λ c. search rules)  -- mul-read-number
-    (λ c. search rules)  -- add-read-number
-    (λ c κs. search rules)  -- read-number-requires
+    (λ c κs. search rules)  -- vertex_in-a-requires
+    (λ c. search rules)  -- overflow_add-at
+    (λ c κs. search rules)  -- vertex_in-b-requires
+    (λ c. search rules)  -- overflow_mul-w
+    (λ c. search rules)  -- overflow_add-at-2
+    (λ c κs. search rules)  -- vertex_in-c-requires
+    (λ c. search rules)  -- overflow_mul-w-2
+    (λ c. search rules)  -- overflow_add-at-3
+    (λ c κs. search rules)  -- read_number-value-requires
     returns)

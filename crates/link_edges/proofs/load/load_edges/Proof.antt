@@ -32,15 +32,15 @@ load_edges_spec =
     (tie.spec
     invariant_loop
     decreases_loop
-    (λ c κs. search rules)  -- no-edge-requires
+    (λ c κs. search rules)  -- no_edge-none-requires
     loop_holds
     edge_in_requires
-    (λ c. search rules)  -- mul-table
-    (λ c. search rules)  -- array-set-from-table
-    (λ c. search rules)  -- mul-p
-    (λ c. search rules)  -- add-p
-    (λ c. search rules)  -- add-p-2
-    (λ c. search rules)  -- add-i
-    (λ c. search rules)  -- loop-less
+    (λ c. search rules)  -- offset_bounds-table-i
+    (λ c. search rules)  -- bounds-table-i
+    (λ c. search rules)  -- overflow_mul-p
+    (λ c. search rules)  -- overflow_add-p
+    (λ c. search rules)  -- overflow_add-p-in-loop-i
+    (λ c. search rules)  -- overflow_add-i
+    (λ c. search rules)  -- loop-i-smaller
     loop_again
     returns)

@@ -13,8 +13,8 @@ pub peel_lent_spec : {M : Type 1} → statement M
 peel_lent_spec =
     tie.close
     (tie.spec
-    (λ c. search rules)  -- slice-aggregate-peel-low-of
-    (λ c. search rules)  -- slice-aggregate-peel-low-of-2
-    (λ c κs. search rules)  -- peel-low-of-requires
-    (λ c. search rules)  -- same-length
+    (λ c. search rules)  -- slice_bounds-peel_low_of-end
+    (λ c. search rules)  -- slice_bounds-peel_low_of-end-2
+    (λ c κs. search rules)  -- peel_low_of-end-requires
+    (λ c. search rules)  -- shape_of-solution
     returns)

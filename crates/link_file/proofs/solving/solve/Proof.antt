@@ -28,12 +28,12 @@ solve_spec =
     tie.close
     (tie.spec
     solve_edges_requires
-    (λ c. search rules)  -- same-length
+    (λ c. search rules)  -- shape_of-solution-then-kind-eq-PEEL
     (λ c.
     let a = c.args in
     let e = c.solve_edges.ensures in
     let q = sym (by_peeling a.kind a.n a.m a.bytes.now a.solution.now (search rules)) in
-    (e.0 ∙ ap (λ (r : Outcome). r.answer) q, e.1 ∙ ap (λ (r : Outcome). r.values) q))  -- returns-then
+    (e.0 ∙ ap (λ (r : Outcome). r.answer) q, e.1 ∙ ap (λ (r : Outcome). r.values) q))  -- returns-then-kind-eq-PEEL
     solve_rows_requires
-    (λ c. search rules)  -- same-length-2
+    (λ c. search rules)  -- shape_of-solution
     returns)

@@ -11,14 +11,12 @@ solve_requires c κs = c.requires.0
 
 write_outcome_requires : tie.Need-write_outcome-requires
 write_outcome_requires c κs =
-    let s = c in
-    let f = s.requires.0.0.few_variables in
-    omega (arith, s.requires.1)
+    let f = c.requires.0.0.few_variables in
+    omega (arith, c.requires.1)
 
 returns : tie.Need-returns
 returns c =
-    let s = c in
-    let a = s.args in
+    let a = c.args in
     let e = c.write_outcome.ensures in
     let so = c.solve-answer in
     retold a.at c.write_outcome.result a.out.now _

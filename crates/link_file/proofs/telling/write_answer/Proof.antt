@@ -9,16 +9,14 @@ use Rattle.link_file.proofs.telling.write_answer.Tie as tie
 
 write_served_requires : tie.Need-write_served-requires
 write_served_requires c κs =
-    let s = c in
-    let a = s.args in
-    let l = loadable a.bytes.now a.kind a.n a.m a.t s.requires.0 in
-    ((served_is l (sym c.sizes_served.ensures ∙ c.if-sizes_served.true), sym l.listed), s.requires.1)
+    let a = c.args in
+    let l = loadable a.bytes.now a.kind a.n a.m a.t c.requires.0 in
+    ((served_is l (sym c.sizes_served.ensures ∙ c.if-sizes_served.true), sym l.listed), c.requires.1)
 
 returns : tie.Need-returns-then-sizes_served
 returns c =
-    let s = c in
-    let a = s.args in
-    let l = loadable a.bytes.now a.kind a.n a.m a.t s.requires.0 in
+    let a = c.args in
+    let l = loadable a.bytes.now a.kind a.n a.m a.t c.requires.0 in
     let e = c.write_served.ensures in
     retold a.at c.write_served.result a.out.now _ (small_text l (sym c.sizes_served.ensures ∙ c.if-sizes_served.true)) e.0 e.1
 
@@ -27,9 +25,8 @@ write_refusal_requires c κs = omega (arith, c.requires.1)
 
 returns_2 : tie.Need-returns
 returns_2 c =
-    let s = c in
-    let a = s.args in
-    let l = loadable a.bytes.now a.kind a.n a.m a.t s.requires.0 in
+    let a = c.args in
+    let l = loadable a.bytes.now a.kind a.n a.m a.t c.requires.0 in
     let e = c.write_refusal.ensures in
     retold a.at c.write_refusal.result a.out.now _ (large_text l (sym c.sizes_served.ensures ∙ c.if-sizes_served.false)) e.0 e.1
 
@@ -37,10 +34,10 @@ pub write_answer_spec : {M : Type 1} → statement M
 write_answer_spec =
     tie.close
     (tie.spec
-    (λ c κs. search rules)  -- sizes-served-requires
+    (λ c κs. search rules)  -- sizes_served-requires
     write_served_requires
-    (λ c. search rules)  -- same-length
+    (λ c. search rules)  -- shape_of-out-then-sizes_served
     returns
     write_refusal_requires
-    (λ c. search rules)  -- same-length-2
+    (λ c. search rules)  -- shape_of-out
     returns_2)

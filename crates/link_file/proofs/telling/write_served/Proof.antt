@@ -15,17 +15,16 @@ array_borrow_prefix_solution : tie.Need-slice_bounds-solution-end
 array_borrow_prefix_solution c = c.requires.0.0.few_variables
 
 slice_aggregate_solve_and_write : tie.Need-slice_bounds-solve_and_write-end
-slice_aggregate_solve_and_write c = let s = c in sym (few_cells s.args.n most_variables s.requires.0.0.few_variables)
+slice_aggregate_solve_and_write c = sym (few_cells c.args.n most_variables c.requires.0.0.few_variables)
 
 solve_and_write_requires : tie.Need-solve_and_write-requires
-solve_and_write_requires c κs = let s = c in (s.requires.0, (few_cells s.args.n most_variables s.requires.0.0.few_variables, s.requires.1))
+solve_and_write_requires c κs = (c.requires.0, (few_cells c.args.n most_variables c.requires.0.0.few_variables, c.requires.1))
 
 returns : tie.Need-returns
 returns c =
-    let s = c in
-    let a = s.args in
+    let a = c.args in
     let e = c.solve_and_write.ensures in
-    let q = ap (λ (cells : List ℕ). outcome_text (served a.kind a.n (file_rows a.kind a.m a.bytes.now) cells)) (take-replicate a.n most_variables 0 s.requires.0.0.few_variables) in
+    let q = ap (λ (cells : List ℕ). outcome_text (served a.kind a.n (file_rows a.kind a.m a.bytes.now) cells)) (take-replicate a.n most_variables 0 c.requires.0.0.few_variables) in
     retold a.at c.solve_and_write.result a.out.now _ q e.0 e.1
 
 pub write_served_spec : {M : Type 1} → statement M
@@ -35,5 +34,5 @@ write_served_spec =
     array_borrow_prefix_solution
     slice_aggregate_solve_and_write
     solve_and_write_requires
-    (λ c. search rules)  -- same-length
+    (λ c. search rules)  -- shape_of-out
     returns)

@@ -32,39 +32,15 @@ returns_5 c =
 
 returns_6 : tie.Need-returns-in_default
 returns_6 c =
-    let s = c in
-    let r₅ = s in
-    let r₄ = r₅ in
-    let i₆ = r₄ in
-    let i₅ = i₆ in
-    let r₃ = i₅ in
-    let i₄ = r₃ in
-    let r₂ = i₄ in
-    let i₃ = r₂ in
-    let r₁ = i₃ in
-    let i₂ = r₁ in
-    let i₁ = i₂ in
-    form_of_scan_lem i₁.args.bytes.now r₁.read_number.result r₂.read_number-2.result r₃.read_number-kind.result r₄.read_number-n.result r₅.read_number-m.result _
-    r₁.read_number.ensures.0 r₂.read_number-2.ensures.0 r₃.read_number-kind.ensures.0 r₄.read_number-n.ensures.0 r₅.read_number-m.ensures.0
-    i₁.if-bytes-gt-MAX_BYTES.false i₂.if-bytes-lt-HEADER_BYTES.false i₃.if-read_number-ne-MARK.false (search rules) i₅.if-kind-lt-SPARSE.false i₆.if-kind-gt-PEEL.false (sym c.in_default.is ∙ s.scan_rows-scan.ensures)
+    form_of_scan_lem c.args.bytes.now c.read_number.result c.read_number-2.result c.read_number-kind.result c.read_number-n.result c.read_number-m.result _
+    c.read_number.ensures.0 c.read_number-2.ensures.0 c.read_number-kind.ensures.0 c.read_number-n.ensures.0 c.read_number-m.ensures.0
+    c.if-bytes-gt-MAX_BYTES.false c.if-bytes-lt-HEADER_BYTES.false c.if-read_number-ne-MARK.false (search rules) c.if-kind-lt-SPARSE.false c.if-kind-gt-PEEL.false (sym c.in_default.is ∙ c.scan_rows-scan.ensures)
 
 returns_7 : tie.Need-returns
 returns_7 c =
-    let s = c in
-    let r₅ = s in
-    let r₄ = r₅ in
-    let i₆ = r₄ in
-    let i₅ = i₆ in
-    let r₃ = i₅ in
-    let i₄ = r₃ in
-    let r₂ = i₄ in
-    let i₃ = r₂ in
-    let r₁ = i₃ in
-    let i₂ = r₁ in
-    let i₁ = i₂ in
-    form_of_scan_lem i₁.args.bytes.now r₁.read_number.result r₂.read_number-2.result r₃.read_number-kind.result r₄.read_number-n.result r₅.read_number-m.result _
-    r₁.read_number.ensures.0 r₂.read_number-2.ensures.0 r₃.read_number-kind.ensures.0 r₄.read_number-n.ensures.0 r₅.read_number-m.ensures.0
-    i₁.if-bytes-gt-MAX_BYTES.false i₂.if-bytes-lt-HEADER_BYTES.false i₃.if-read_number-ne-MARK.false (search rules) i₅.if-kind-lt-SPARSE.false i₆.if-kind-gt-PEEL.false (sym c.in-Listed.is ∙ s.scan_rows-scan.ensures)
+    form_of_scan_lem c.args.bytes.now c.read_number.result c.read_number-2.result c.read_number-kind.result c.read_number-n.result c.read_number-m.result _
+    c.read_number.ensures.0 c.read_number-2.ensures.0 c.read_number-kind.ensures.0 c.read_number-n.ensures.0 c.read_number-m.ensures.0
+    c.if-bytes-gt-MAX_BYTES.false c.if-bytes-lt-HEADER_BYTES.false c.if-read_number-ne-MARK.false (search rules) c.if-kind-lt-SPARSE.false c.if-kind-gt-PEEL.false (sym c.in-Listed.is ∙ c.scan_rows-scan.ensures)
 
 pub read_form_spec : {M : Type 1} → statement M
 read_form_spec =
@@ -72,19 +48,19 @@ read_form_spec =
     (tie.spec
     returns
     returns_2
-    (λ c κs. search rules)  -- read-number-requires
+    (λ c κs. search rules)  -- read_number-requires
     returns_3
-    (λ c κs. search rules)  -- read-number-requires-2
+    (λ c κs. search rules)  -- read_number-requires-2
     (λ c.
     let other : c.read_number-2.result ≢ 1 = search rules in
-    sym (malformed c.args.bytes.now (other_version c.args.bytes.now (λ e. other (c.read_number-2.ensures.0 ∙ e)))))  -- returns-then
-    (λ c κs. search rules)  -- read-number-requires-3
+    sym (malformed c.args.bytes.now (other_version c.args.bytes.now (λ e. other (c.read_number-2.ensures.0 ∙ e)))))  -- returns-then-read_number-ne1
+    (λ c κs. search rules)  -- read_number-kind-requires
     returns_4
     returns_5
-    (λ c κs. search rules)  -- read-number-requires-4
-    (λ c κs. search rules)  -- read-number-requires-5
-    (λ c κs. search rules)  -- scan-rows-requires
-    (λ c. search rules)  -- enum-known-scan
-    (λ c. search rules)  -- enum_told
+    (λ c κs. search rules)  -- read_number-n-requires
+    (λ c κs. search rules)  -- read_number-m-requires
+    (λ c κs. search rules)  -- scan_rows-scan-requires
+    (λ c. search rules)  -- enum_known-scan
+    (λ c. search rules)  -- enum_told-1
     returns_6
     returns_7)

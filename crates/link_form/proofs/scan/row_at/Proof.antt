@@ -57,13 +57,13 @@ pub row_at_spec : {M : Type 1} → statement M
 row_at_spec =
     tie.close
     (tie.spec
-    (λ c. search rules)  -- sub-left
-    (λ c κs. search rules)  -- count-bytes-requires
+    (λ c. search rules)  -- overflow_sub-left
+    (λ c κs. search rules)  -- count_bytes-head-requires
     returns
-    (λ c κs. search rules)  -- count-at-requires
+    (λ c κs. search rules)  -- count_at-count-requires
     mul_size
     add_size
     add_size_2
     returns_2
-    (λ c. search rules)  -- add-t11
+    (λ c. search rules)  -- overflow_add-result
     returns_3)

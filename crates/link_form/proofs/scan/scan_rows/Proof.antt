@@ -44,13 +44,13 @@ scan_rows_spec =
     invariant_loop
     decreases_loop
     loop_holds
-    (λ c κs. search rules)  -- row-at-requires
-    (λ c. search rules)  -- enum-known-row
-    (λ c. search rules)  -- enum_told
+    (λ c κs. search rules)  -- row_at-row-requires
+    (λ c. search rules)  -- enum_known-row
+    (λ c. search rules)  -- enum_told-1
     returns
     add_t
-    (λ c. search rules)  -- add-i
-    (λ c. search rules)  -- loop-less
+    (λ c. search rules)  -- overflow_add-i
+    (λ c. search rules)  -- loop-i-smaller
     loop_again
     returns_2
     returns_3)

@@ -33,14 +33,14 @@ lay_digits_spec =
     invariant_loop
     decreases_loop
     loop_holds
-    (λ c. search rules)  -- cast-digits
-    (λ c. search rules)  -- add-digits
-    (λ c. search rules)  -- slice-write-digits
+    (λ c. search rules)  -- overflow_cast-digits
+    (λ c. search rules)  -- overflow_add-digits
+    (λ c. search rules)  -- bounds-digits-k
     sub_k
-    (λ c. search rules)  -- loop-less
+    (λ c. search rules)  -- loop-rest-smaller
     loop_again
-    (λ c. search rules)  -- cast-digits-2
-    (λ c. search rules)  -- add-digits-2
-    (λ c. search rules)  -- slice-write-digits-2
+    (λ c. search rules)  -- overflow_cast-digits-2
+    (λ c. search rules)  -- overflow_add-digits-2
+    (λ c. search rules)  -- bounds-digits-k-2
     same_length
     returns)

@@ -13,13 +13,12 @@ write_ended_requires_2 c κs =
 
 returns : tie.Need-returns
 returns c =
-    let s = c in
-    let a = s.args in
+    let a = c.args in
     let f = c.write_ended-p in
     let g = c.write_ended in
     let l = ended_short a.number space in
-    let t = ended_first a.number space a.at f.result a.out.now _ (omega (arith, s.requires)) f.ensures.0 f.ensures.1 in
-    let u = ended_more a.place newline g.result _ t (omega (arith, s.requires, t)) g.ensures.0 g.ensures.1 in
+    let t = ended_first a.number space a.at f.result a.out.now _ (omega (arith, c.requires)) f.ensures.0 f.ensures.1 in
+    let u = ended_more a.place newline g.result _ t (omega (arith, c.requires, t)) g.ensures.0 g.ensures.1 in
     unfold answer_line in (u.ends, u.stands)
 
 pub write_answer_line_spec : {M : Type 1} → statement M

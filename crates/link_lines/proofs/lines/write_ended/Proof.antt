@@ -17,11 +17,10 @@ add_result c =
 
 returns : tie.Need-returns
 returns c =
-    let s = c in
-    let a = s.args in
+    let a = c.args in
     let f = few_digits a.x in
     let e = c.write_decimal-p.ensures in
-    ended_written a.x a.end a.at c.write_decimal-p.result a.out.now _ e.0 e.1 (omega (arith, s.requires))
+    ended_written a.x a.end a.at c.write_decimal-p.result a.out.now _ e.0 e.1 (omega (arith, c.requires))
 
 pub write_ended_spec : {M : Type 1} → statement M
 write_ended_spec =

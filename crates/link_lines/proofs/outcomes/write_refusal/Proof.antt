@@ -5,11 +5,10 @@ use Rattle.link_lines.proofs.outcomes.write_refusal.Tie as tie
 
 returns : tie.Need-returns
 returns c =
-    let s = c in
     let number = c.number-number in
     let place = c.place-place in
     let e = c.write_answer_line.ensures in
-    line_told s.args.answer number.result place.result s.args.at c.write_answer_line.result s.args.out.now _ number.ensures place.ensures e.0 e.1
+    line_told c.args.answer number.result place.result c.args.at c.write_answer_line.result c.args.out.now _ number.ensures place.ensures e.0 e.1
 
 pub write_refusal_spec : {M : Type 1} → statement M
 write_refusal_spec =

@@ -55,7 +55,7 @@ lookup_spec =
     (tie.spec
     (λ c.
     let long : 16384 < length c.args.table.now = search rules in
-    numbered _ _ _ _ _ (simp (lt-leb _ _ long) refl))  -- returns-then
+    numbered _ _ _ _ _ (simp (lt-leb _ _ long) refl))  -- returns-then-table-gt-MAX_VARIABLES
     keeps_rule_requires
     cast_x
     mul_x

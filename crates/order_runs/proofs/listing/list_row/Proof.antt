@@ -14,10 +14,10 @@ list_row_spec =
     (tie.spec
     invariant_loop
     decreases_loop
-    (λ c. search rules)  -- loop-holds
-    (λ c κs. search rules)  -- list-column-requires
-    (λ c. search rules)  -- add-v
-    (λ c. search rules)  -- loop-less
-    (λ c. search rules)  -- loop-again
-    (λ c. search rules)  -- same-length
+    (λ c. search rules)  -- loop-v-init
+    (λ c κs. search rules)  -- list_column-t-requires
+    (λ c. search rules)  -- overflow_add-v
+    (λ c. search rules)  -- loop-v-smaller
+    (λ c. search rules)  -- loop-v-preserved
+    (λ c. search rules)  -- shape_of-vars
     (λ c. search rules))

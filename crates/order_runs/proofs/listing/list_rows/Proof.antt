@@ -17,23 +17,23 @@ list_rows_spec =
     (tie.spec
     invariant_loop
     decreases_loop
-    (λ c. search rules)  -- loop-holds
-    (λ c. search rules)  -- cast-starts
-    (λ c. search rules)  -- mul-starts
-    (λ c. search rules)  -- slice-write-starts
-    (λ c. search rules)  -- mul-from
-    (λ c. search rules)  -- add-to
-    (λ c. search rules)  -- mul-list-row
-    (λ c. search rules)  -- sub-list-row
-    (λ c. search rules)  -- part-list-row-start
-    (λ c. search rules)  -- part-list-row-end
-    (λ c κs. search rules)  -- list-row-requires
-    (λ c. search rules)  -- add-i
-    (λ c. search rules)  -- loop-less
+    (λ c. search rules)  -- loop-i-init
+    (λ c. search rules)  -- overflow_cast-starts
+    (λ c. search rules)  -- offset_bounds-starts-i
+    (λ c. search rules)  -- bounds-starts-i
+    (λ c. search rules)  -- overflow_mul-from
+    (λ c. search rules)  -- overflow_add-to
+    (λ c. search rules)  -- offset_bounds-rows-from
+    (λ c. search rules)  -- slice_bounds-list_row-count
+    (λ c. search rules)  -- slice_bounds-list_row-start
+    (λ c. search rules)  -- slice_bounds-list_row-end
+    (λ c κs. search rules)  -- list_row-t-requires
+    (λ c. search rules)  -- overflow_add-i
+    (λ c. search rules)  -- loop-i-smaller
     loop_again
-    (λ c. search rules)  -- cast-starts-2
-    (λ c. search rules)  -- mul-starts-2
-    (λ c. search rules)  -- slice-write-starts-2
-    (λ c. search rules)  -- same-length
-    (λ c. search rules)  -- same-length-2
+    (λ c. search rules)  -- overflow_cast-starts-2
+    (λ c. search rules)  -- offset_bounds-starts-m
+    (λ c. search rules)  -- bounds-starts-m
+    (λ c. search rules)  -- shape_of-starts
+    (λ c. search rules)  -- shape_of-vars
     (λ c. search rules))

@@ -12,11 +12,11 @@ pub repeat_spec : {M : Type 1} → statement M
 repeat_spec =
     tie.close
     (tie.spec
-    (λ c. search rules)  -- returns
-    (λ c κs. search rules)  -- below-requires
-    (λ c. search rules)  -- mul-copy-within-words
-    (λ c. search rules)  -- mul-copy-within-words-2
+    (λ c. search rules)  -- returns-then-m-eq0
+    (λ c κs. search rules)  -- below-j-requires
+    (λ c. search rules)  -- overflow_mul-j
+    (λ c. search rules)  -- overflow_mul-m
     copy_within_words_requires
     copy_within_words_requires_2
-    (λ c. search rules)  -- add-result
+    (λ c. search rules)  -- overflow_add-result
     (λ c. search rules))

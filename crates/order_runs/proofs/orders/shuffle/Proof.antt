@@ -14,12 +14,12 @@ shuffle_spec =
     (tie.spec
     invariant_loop
     decreases_loop
-    (λ c. search rules)  -- loop-holds
-    (λ c κs. search rules)  -- below-requires
-    (λ c. search rules)  -- sub-left
+    (λ c. search rules)  -- loop-left-init
+    (λ c κs. search rules)  -- below-j-requires
+    (λ c. search rules)  -- overflow_sub-left
     (λ c κs. search rules)  -- exchange-requires
-    (λ c. search rules)  -- loop-less
-    (λ c. search rules)  -- loop-again
-    (λ c. search rules)  -- loop-less-2
-    (λ c. search rules)  -- loop-again-2
+    (λ c. search rules)  -- loop-left-smaller-then-j-left
+    (λ c. search rules)  -- loop-left-preserved-then-j-left
+    (λ c. search rules)  -- loop-left-smaller
+    (λ c. search rules)  -- loop-left-preserved
     (λ c. search rules))

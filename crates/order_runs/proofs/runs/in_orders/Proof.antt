@@ -14,13 +14,13 @@ in_orders_spec =
     (tie.spec
     invariant_loop
     decreases_loop
-    (λ c. search rules)  -- loop-holds
-    (λ c κs. search rules)  -- reordered-requires
-    (λ c κs. search rules)  -- count-if-requires
-    (λ c. search rules)  -- add-k
-    (λ c. search rules)  -- loop-less
-    (λ c. search rules)  -- loop-again
-    (λ c κs. search rules)  -- repeat-requires
-    (λ c κs. search rules)  -- reordered-requires-2
-    (λ c κs. search rules)  -- count-if-requires-2
+    (λ c. search rules)  -- loop-k-init
+    (λ c κs. search rules)  -- reordered-changed-requires
+    (λ c κs. search rules)  -- count_if-requires
+    (λ c. search rules)  -- overflow_add-k
+    (λ c. search rules)  -- loop-k-smaller
+    (λ c. search rules)  -- loop-k-preserved
+    (λ c κs. search rules)  -- repeat-more-requires
+    (λ c κs. search rules)  -- reordered-changed-requires-2
+    (λ c κs. search rules)  -- count_if-requires-2
     (λ c. search rules))

@@ -14,11 +14,11 @@ systems_spec =
     (tie.spec
     invariant_loop
     decreases_loop
-    (λ c. search rules)  -- loop-holds
-    (λ c κs. search rules)  -- below-requires
-    (λ c. search rules)  -- add-system
+    (λ c. search rules)  -- loop-k-init
+    (λ c κs. search rules)  -- below-m-requires
+    (λ c. search rules)  -- overflow_add-k
     (λ c κs. search rules)  -- system-requires
-    (λ c. search rules)  -- add-k
-    (λ c. search rules)  -- loop-less
-    (λ c. search rules)  -- loop-again
+    (λ c. search rules)  -- overflow_add-k-in-loop-k
+    (λ c. search rules)  -- loop-k-smaller
+    (λ c. search rules)  -- loop-k-preserved
     (λ c. search rules))

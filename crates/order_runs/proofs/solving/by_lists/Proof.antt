@@ -9,9 +9,9 @@ pub by_lists_spec : {M : Type 1} → statement M
 by_lists_spec =
     tie.close
     (tie.spec
-    (λ c. search rules)  -- array-borrow-prefix-x
+    (λ c. search rules)  -- slice_bounds-x-end
     slice_aggregate_eliminate
-    (λ c κs. search rules)  -- eliminate-requires
-    (λ c. search rules)  -- same-length
-    (λ c. search rules)  -- same-length-2
+    (λ c κs. search rules)  -- eliminate-answer-requires
+    (λ c. search rules)  -- shape_of-numbers
+    (λ c. search rules)  -- shape_of-words
     (λ c. search rules))

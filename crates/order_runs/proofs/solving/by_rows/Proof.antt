@@ -9,9 +9,9 @@ pub by_rows_spec : {M : Type 1} → statement M
 by_rows_spec =
     tie.close
     (tie.spec
-    (λ c. search rules)  -- array-borrow-prefix-x
+    (λ c. search rules)  -- slice_bounds-x-end
     slice_aggregate_eliminate_rows
-    (λ c κs. search rules)  -- eliminate-rows-requires
-    (λ c. search rules)  -- same-length
-    (λ c. search rules)  -- same-length-2
+    (λ c κs. search rules)  -- eliminate_rows-answer-requires
+    (λ c. search rules)  -- shape_of-numbers
+    (λ c. search rules)  -- shape_of-words
     (λ c. search rules))

@@ -15,16 +15,16 @@ pub solve_spec : {M : Type 1} → statement M
 solve_spec =
     tie.close
     (tie.spec
-    (λ c. search rules)  -- slice-aggregate-list-rows
-    (λ c. search rules)  -- slice-aggregate-list-rows-2
-    (λ c κs. search rules)  -- list-rows-requires
-    (λ c. search rules)  -- add-ends
-    (λ c. search rules)  -- array-share-prefix-starts
+    (λ c. search rules)  -- slice_bounds-list_rows-end
+    (λ c. search rules)  -- slice_bounds-list_rows-end-2
+    (λ c κs. search rules)  -- list_rows-t-requires
+    (λ c. search rules)  -- overflow_add-ends
+    (λ c. search rules)  -- slice_bounds-starts-end
     slice_aggregate_by_all
-    (λ c. search rules)  -- array-share-prefix-vars
+    (λ c. search rules)  -- slice_bounds-vars-end
     slice_aggregate_by_all_2
     slice_aggregate_by_all_3
-    (λ c. search rules)  -- slice-aggregate-by-all-4
-    (λ c. search rules)  -- slice-aggregate-by-all-5
-    (λ c κs. search rules)  -- by-all-requires
+    (λ c. search rules)  -- slice_bounds-by_all-end-4
+    (λ c. search rules)  -- slice_bounds-by_all-end-5
+    (λ c κs. search rules)  -- by_all-requires
     (λ c. search rules))

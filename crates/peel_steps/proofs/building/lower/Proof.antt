@@ -17,6 +17,6 @@ lower_spec =
     tie.close
     (tie.spec
     wide_requires
-    (λ c. lower_here _ _ c.if-over.true c.wide-i.ensures (search rules))  -- returns-then
-    (λ c. lower_before _ _ c.if-over.true c.wide-i.ensures (search rules))  -- returns-else
+    (λ c. lower_here _ _ c.if-over.true c.wide-i.ensures (search rules))  -- returns-then-i-low
+    (λ c. lower_before _ _ c.if-over.true c.wide-i.ensures (search rules))  -- returns-else-i-low
     returns)

@@ -33,8 +33,7 @@ same_length c = search rules
 
 returns : tie.Need-returns
 returns c =
-    let at = c in
-    push_upper_from at.args.numbers.now _ _ at.args.n at.args.peeled at.args.v.0 at.requires.1 at.requires.2 refl refl c.push_upper_at.ensures.1
+    push_upper_from c.args.numbers.now _ _ c.args.n c.args.peeled c.args.v.0 c.requires.1 c.requires.2 refl refl c.push_upper_at.ensures.1
 
 pub keep_vertex_spec : {M : Type 1} → statement M
 keep_vertex_spec =

@@ -27,11 +27,10 @@ same_length c = search rules
 
 returns : tie.Need-returns-then-yes
 returns c =
-    let at = c in
     let pushed = c.fast_push-after.ensures in
     rw c.if-yes.true (
-      ap (λ r. r.head.lower) pushed.0 ∙ head_from at.args.numbers.now _ at.args.n at.args.v.0 at.requires,
-      push_from at.args.numbers.now _ _ at.args.n at.args.v.0 at.requires pushed.1,
+      ap (λ r. r.head.lower) pushed.0 ∙ head_from c.args.numbers.now _ c.args.n c.args.v.0 c.requires,
+      push_from c.args.numbers.now _ _ c.args.n c.args.v.0 c.requires pushed.1,
     )
 
 returns_2 : tie.Need-returns

@@ -11,14 +11,14 @@ pub add_at_spec : {M : Type 1} → statement M
 add_at_spec =
     tie.close
     (tie.spec
-    (λ c. search rules)  -- cast-i
-    (λ c. search rules)  -- slice-read-byte
+    (λ c. search rules)  -- overflow_cast-i
+    (λ c. search rules)  -- bounds-degrees-i
     (λ c κs. search rules)  -- raised-requires
-    (λ c. search rules)  -- slice-write-degrees
-    (λ c. search rules)  -- mul-edges
-    (λ c. search rules)  -- slice-read-edges
-    (λ c. search rules)  -- mul-edges-2
-    (λ c. search rules)  -- slice-write-edges
-    (λ c. search rules)  -- same-length
-    (λ c. search rules)  -- same-length-2
+    (λ c. search rules)  -- bounds-degrees-i-2
+    (λ c. search rules)  -- offset_bounds-edges-i
+    (λ c. search rules)  -- bounds-edges-i
+    (λ c. search rules)  -- offset_bounds-edges-i-2
+    (λ c. search rules)  -- bounds-edges-i-2
+    (λ c. search rules)  -- shape_of-edges
+    (λ c. search rules)  -- shape_of-degrees
     returns)

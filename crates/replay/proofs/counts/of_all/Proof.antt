@@ -14,10 +14,10 @@ of_all_spec =
     (tie.spec
     invariant_loop
     decreases_loop
-    (λ c. search rules)  -- loop-holds
-    (λ c κs. search rules)  -- of-kind-requires
-    (λ c κs. search rules)  -- wrapping-add-u64-requires
-    (λ c. search rules)  -- add-kind
-    (λ c. search rules)  -- loop-less
-    (λ c. search rules)  -- loop-again
+    (λ c. search rules)  -- loop-kind-init
+    (λ c κs. search rules)  -- of_kind-requires
+    (λ c κs. search rules)  -- wrapping_add_u64-sum-requires
+    (λ c. search rules)  -- overflow_add-kind
+    (λ c. search rules)  -- loop-kind-smaller
+    (λ c. search rules)  -- loop-kind-preserved
     (λ c. search rules))

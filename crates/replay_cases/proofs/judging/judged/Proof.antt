@@ -38,11 +38,11 @@ judged_spec =
     (tie.spec
     (λ c κs. search rules)  -- agrees-requires
     returns
-    (λ c κs. search rules)  -- solution-left-requires
+    (λ c κs. search rules)  -- solution_left-requires
     returns_2
-    (λ c κs. search rules)  -- zeros-after-requires
-    (λ c κs. search rules)  -- left-numbers-requires
+    (λ c κs. search rules)  -- zeros_after-requires
+    (λ c κs. search rules)  -- left_numbers-requires
     returns_3
-    (λ c κs. search rules)  -- zeros-after-requires-2
-    (λ c κs. search rules)  -- left-words-requires
+    (λ c κs. search rules)  -- zeros_after-requires-2
+    (λ c κs. search rules)  -- left_words-requires
     returns_4)

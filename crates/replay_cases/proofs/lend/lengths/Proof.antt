@@ -35,13 +35,13 @@ pub lengths_spec : {M : Type 1} → statement M
 lengths_spec =
     tie.close
     (tie.spec
-    (λ c. search rules)  -- add-t5
-    (λ c. search rules)  -- add-t6
+    (λ c. search rules)  -- overflow_add-result
+    (λ c. search rules)  -- overflow_add-result-then-way-eq1
     returns
-    (λ c κs. search rules)  -- one-less-requires
+    (λ c κs. search rules)  -- one_less-requires
     returns_2
-    (λ c κs. search rules)  -- one-less-requires-2
+    (λ c κs. search rules)  -- one_less-requires-then-way-eq3
     returns_3
-    (λ c. search rules)  -- add-t8
+    (λ c. search rules)  -- overflow_add-result-then-way-eq4
     returns_4
     returns_5)

@@ -41,9 +41,9 @@ lent_as_spec =
     (tie.spec
     (λ c κs. search rules)  -- nothing-requires
     returns
-    (λ c κs. search rules)  -- nothing-requires-2
+    (λ c κs. search rules)  -- nothing-requires-then-room-gt65533
     returns_2
-    (λ c κs. search rules)  -- nothing-requires-3
+    (λ c κs. search rules)  -- nothing-requires-then-room-gt1021-2
     returns_3
     (λ c κs. search rules)  -- lengths-requires
     returns_4)

@@ -13,7 +13,7 @@ pub solution_left_spec : {M : Type 1} → statement M
 solution_left_spec =
     tie.close
     (tie.spec
-    (λ c κs. search rules)  -- same-words-requires
+    (λ c κs. search rules)  -- same_words-requires
     returns
-    (λ c κs. search rules)  -- left-words-requires
+    (λ c κs. search rules)  -- left_words-requires
     returns_2)

@@ -47,6 +47,6 @@ wanted_spec =
     (λ c κs. search rules)  -- lacks-requires
     (λ c κs. search rules)  -- refusal-requires
     returns_2
-    (λ c κs. search rules)  -- refusal-requires-2
+    (λ c κs. search rules)  -- refusal-requires-then-way-eq4
     returns_3
     returns_4)

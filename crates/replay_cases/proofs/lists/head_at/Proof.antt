@@ -40,13 +40,13 @@ pub head_at_spec : {M : Type 1} → statement M
 head_at_spec =
     tie.close
     (tie.spec
-    (λ c κs. search rules)  -- no-list-requires
+    (λ c κs. search rules)  -- no_list-requires
     returns
-    (λ c κs. search rules)  -- no-list-requires-2
+    (λ c κs. search rules)  -- no_list-requires-then-end-at-lt3
     returns_2
-    (λ c κs. search rules)  -- read-number-requires
-    (λ c. search rules)  -- add-read-number
-    (λ c κs. search rules)  -- read-number-requires-2
-    (λ c. search rules)  -- add-whole-list
+    (λ c κs. search rules)  -- read_number-width-requires
+    (λ c. search rules)  -- overflow_add-at
+    (λ c κs. search rules)  -- read_number-count-requires
+    (λ c. search rules)  -- overflow_add-at-2
     whole_list_requires
     returns_3)

@@ -49,16 +49,16 @@ load_words_spec =
     (tie.spec
     invariant_loop
     decreases_loop
-    (λ c κs. search rules)  -- head-at-requires
+    (λ c κs. search rules)  -- head_at-head-requires
     (λ c κs. search rules)  -- broken-requires
     returns
     loop_holds
     read_number_requires
-    (λ c. search rules)  -- mul-out
-    (λ c. search rules)  -- slice-write-out
+    (λ c. search rules)  -- offset_bounds-out-i
+    (λ c. search rules)  -- bounds-out-i
     add_p
-    (λ c. search rules)  -- add-i
-    (λ c. search rules)  -- loop-less
+    (λ c. search rules)  -- overflow_add-i
+    (λ c. search rules)  -- loop-i-smaller
     loop_again
-    (λ c. search rules)  -- same-length
+    (λ c. search rules)  -- shape_of-out
     returns_2)

@@ -28,10 +28,10 @@ pub whole_list_spec : {M : Type 1} → statement M
 whole_list_spec =
     tie.close
     (tie.spec
-    (λ c κs. search rules)  -- no-list-requires
+    (λ c κs. search rules)  -- no_list-requires
     returns
-    (λ c. search rules)  -- sub-if2
+    (λ c. search rules)  -- overflow_sub-end
     mul_if2
-    (λ c κs. search rules)  -- no-list-requires-2
+    (λ c κs. search rules)  -- no_list-requires-then-end-at
     returns_2
     returns_3)

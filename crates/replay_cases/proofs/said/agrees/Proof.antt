@@ -15,8 +15,8 @@ pub agrees_spec : {M : Type 1} → statement M
 agrees_spec =
     tie.close
     (tie.spec
-    (λ c κs. search rules)  -- number-requires
-    (λ c. search rules)  -- cast-number
-    (λ c κs. search rules)  -- place-requires
+    (λ c κs. search rules)  -- number-number-requires
+    (λ c. search rules)  -- overflow_cast-number
+    (λ c κs. search rules)  -- place-place-requires
     returns
     returns_2)

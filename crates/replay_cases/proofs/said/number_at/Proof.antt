@@ -11,7 +11,7 @@ pub number_at_spec : {M : Type 1} → statement M
 number_at_spec =
     tie.close
     (tie.spec
-    (λ c. search rules)  -- mul-result
-    (λ c. search rules)  -- shared-slice-read-result
-    (λ c. search rules)  -- returns
+    (λ c. search rules)  -- offset_bounds-list-i
+    (λ c. search rules)  -- bounds-list-i
+    (λ c. search rules)  -- returns-then-i-list
     returns_2)

@@ -14,7 +14,7 @@ said_of_spec =
     tie.close
     (tie.spec
     returns
-    (λ c. search rules)  -- shared-slice-read-t5
-    (λ c. search rules)  -- shared-slice-read-t7
-    (λ c. search rules)  -- shared-slice-read-t9
+    (λ c. search rules)  -- bounds-list-0
+    (λ c. search rules)  -- bounds-list-1
+    (λ c. search rules)  -- bounds-list-2
     returns_2)

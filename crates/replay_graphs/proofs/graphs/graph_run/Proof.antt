@@ -20,29 +20,29 @@ graph_run_spec =
     (tie.spec
     invariant_loop
     decreases_loop
-    (λ c κs. search rules)  -- new-requires
-    (λ c. search rules)  -- loop-holds
-    (λ c. search rules)  -- mul-number-at
-    (λ c κs. search rules)  -- number-at-requires
-    (λ c. search rules)  -- mul-number-at-2
-    (λ c. search rules)  -- add-number-at
-    (λ c κs. search rules)  -- number-at-requires-2
-    (λ c. search rules)  -- mul-number-at-3
-    (λ c. search rules)  -- add-number-at-2
-    (λ c κs. search rules)  -- number-at-requires-3
-    (λ c. search rules)  -- mul-number-at-4
-    (λ c. search rules)  -- add-number-at-3
-    (λ c κs. search rules)  -- number-at-requires-4
-    (λ c κs. search rules)  -- side-of-requires
-    (λ c κs. search rules)  -- graph-call-requires
-    (λ c. search rules)  -- mul-is-reply
-    (λ c κs. search rules)  -- is-reply-requires
-    (λ c. search rules)  -- same-length
-    (λ c. search rules)  -- same-length-2
-    (λ c. search rules)  -- returns
+    (λ c κs. search rules)  -- new-graph-requires
+    (λ c. search rules)  -- loop-i-init
+    (λ c. search rules)  -- overflow_mul-i
+    (λ c κs. search rules)  -- number_at-op-requires
+    (λ c. search rules)  -- overflow_mul-i-in-loop-i
+    (λ c. search rules)  -- overflow_add-i
+    (λ c κs. search rules)  -- number_at-v-requires
+    (λ c. search rules)  -- overflow_mul-i-in-loop-i-2
+    (λ c. search rules)  -- overflow_add-i-in-loop-i
+    (λ c κs. search rules)  -- number_at-x-requires
+    (λ c. search rules)  -- overflow_mul-i-in-loop-i-3
+    (λ c. search rules)  -- overflow_add-i-in-loop-i-2
+    (λ c κs. search rules)  -- number_at-requires
+    (λ c κs. search rules)  -- side_of-side-requires
+    (λ c κs. search rules)  -- graph_call-step-requires
+    (λ c. search rules)  -- overflow_mul-i-in-loop-i-4
+    (λ c κs. search rules)  -- is_reply-requires
+    (λ c. search rules)  -- shape_of-edges-then-not-is_reply
+    (λ c. search rules)  -- shape_of-degrees-then-not-is_reply
+    (λ c. search rules)  -- returns-then-not-is_reply
     add_i
-    (λ c. search rules)  -- loop-less
-    (λ c. search rules)  -- loop-again
-    (λ c. search rules)  -- same-length-3
-    (λ c. search rules)  -- same-length-4
+    (λ c. search rules)  -- loop-i-smaller
+    (λ c. search rules)  -- loop-i-preserved
+    (λ c. search rules)  -- shape_of-edges
+    (λ c. search rules)  -- shape_of-degrees
     (λ c. search rules))

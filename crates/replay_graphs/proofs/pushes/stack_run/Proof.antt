@@ -17,19 +17,19 @@ stack_run_spec =
     (tie.spec
     invariant_loop
     decreases_loop
-    (λ c. search rules)  -- loop-holds
-    (λ c. search rules)  -- mul-number-at
-    (λ c κs. search rules)  -- number-at-requires
-    (λ c. search rules)  -- mul-number-at-2
-    (λ c. search rules)  -- add-number-at
-    (λ c κs. search rules)  -- number-at-requires-2
-    (λ c κs. search rules)  -- stack-call-requires
-    (λ c. search rules)  -- mul-is-reply
-    (λ c κs. search rules)  -- is-reply-requires
-    (λ c. search rules)  -- same-length
-    (λ c. search rules)  -- returns
-    (λ c. search rules)  -- add-i
-    (λ c. search rules)  -- loop-less
-    (λ c. search rules)  -- loop-again
-    (λ c. search rules)  -- same-length-2
+    (λ c. search rules)  -- loop-i-init
+    (λ c. search rules)  -- overflow_mul-i
+    (λ c κs. search rules)  -- number_at-op-requires
+    (λ c. search rules)  -- overflow_mul-i-in-loop-i
+    (λ c. search rules)  -- overflow_add-i
+    (λ c κs. search rules)  -- number_at-x-requires
+    (λ c κs. search rules)  -- stack_call-step-requires
+    (λ c. search rules)  -- overflow_mul-i-in-loop-i-2
+    (λ c κs. search rules)  -- is_reply-requires
+    (λ c. search rules)  -- shape_of-stack-then-not-is_reply
+    (λ c. search rules)  -- returns-then-not-is_reply
+    (λ c. search rules)  -- overflow_add-i-in-loop-i
+    (λ c. search rules)  -- loop-i-smaller
+    (λ c. search rules)  -- loop-i-preserved
+    (λ c. search rules)  -- shape_of-stack
     (λ c. search rules))

@@ -43,13 +43,13 @@ is_reply_spec =
     tie.close
     (tie.spec
     returns
-    (λ c. search rules)  -- sub-if2
+    (λ c. search rules)  -- overflow_sub-replies
     returns_2
-    (λ c κs. search rules)  -- number-at-requires
+    (λ c κs. search rules)  -- number_at-requires
     returns_3
-    (λ c. search rules)  -- add-number-at
-    (λ c κs. search rules)  -- number-at-requires-2
+    (λ c. search rules)  -- overflow_add-at
+    (λ c κs. search rules)  -- number_at-requires-2
     returns_4
-    (λ c. search rules)  -- add-number-at-2
-    (λ c κs. search rules)  -- number-at-requires-3
+    (λ c. search rules)  -- overflow_add-at-2
+    (λ c κs. search rules)  -- number_at-requires-3
     returns_5)

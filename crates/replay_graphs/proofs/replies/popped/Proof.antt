@@ -17,10 +17,10 @@ pub popped_spec : {M : Type 1} → statement M
 popped_spec =
     tie.close
     (tie.spec
-    (λ c. search rules)  -- enum-known-got
+    (λ c. search rules)  -- enum_known-got
     (λ c κs. search rules)  -- valued-requires
-    (λ c. search rules)  -- enum_told
-    (λ c. search rules)  -- enum-known-got-2
+    (λ c. search rules)  -- enum_told-1
+    (λ c. search rules)  -- enum_known-got-in-Refused-1
     (λ c κs. search rules)  -- told-requires
     returns
     returns_2

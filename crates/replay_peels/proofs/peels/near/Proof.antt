@@ -12,7 +12,7 @@ pub near_spec : {M : Type 1} → statement M
 near_spec =
     tie.close
     (tie.spec
-    (λ c. search rules)  -- returns
+    (λ c. search rules)  -- returns-then-hundredths-gt10000
     int_to_float_off
-    (λ c. search rules)  -- returns-2
+    (λ c. search rules)  -- returns-then-off
     (λ c. search rules))  -- returns-3

@@ -15,10 +15,10 @@ peel_ways_spec =
     (tie.spec
     invariant_loop
     decreases_loop
-    (λ c. search rules)  -- loop-holds
-    (λ c κs. search rules)  -- peel-way-requires
-    (λ c. search rules)  -- returns
-    (λ c. search rules)  -- add-way
-    (λ c. search rules)  -- loop-less
-    (λ c. search rules)  -- loop-again
+    (λ c. search rules)  -- loop-way-init
+    (λ c κs. search rules)  -- peel_way-requires
+    (λ c. search rules)  -- returns-then-not-peel_way
+    (λ c. search rules)  -- overflow_add-way
+    (λ c. search rules)  -- loop-way-smaller
+    (λ c. search rules)  -- loop-way-preserved
     (λ c. search rules))

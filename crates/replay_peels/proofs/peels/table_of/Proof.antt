@@ -15,13 +15,13 @@ table_of_spec =
     (tie.spec
     invariant_loop
     decreases_loop
-    (λ c κs. search rules)  -- no-edge-requires
-    (λ c. search rules)  -- loop-holds
-    (λ c κs. search rules)  -- word-at-requires
-    (λ c κs. search rules)  -- edge-of-requires
-    (λ c. search rules)  -- mul-table
-    (λ c. search rules)  -- array-set-from-table
-    (λ c. search rules)  -- add-i
-    (λ c. search rules)  -- loop-less
-    (λ c. search rules)  -- loop-again
+    (λ c κs. search rules)  -- no_edge-none-requires
+    (λ c. search rules)  -- loop-i-init
+    (λ c κs. search rules)  -- word_at-requires
+    (λ c κs. search rules)  -- edge_of-requires
+    (λ c. search rules)  -- offset_bounds-table-i
+    (λ c. search rules)  -- bounds-table-i
+    (λ c. search rules)  -- overflow_add-i
+    (λ c. search rules)  -- loop-i-smaller
+    (λ c. search rules)  -- loop-i-preserved
     (λ c. search rules))

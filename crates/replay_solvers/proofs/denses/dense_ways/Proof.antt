@@ -15,12 +15,12 @@ dense_ways_spec =
     (tie.spec
     invariant_loop
     decreases_loop
-    (λ c. search rules)  -- loop-holds
-    (λ c κs. search rules)  -- dense-way-requires
-    (λ c. search rules)  -- returns
-    (λ c κs. search rules)  -- dense-way-requires-2
-    (λ c. search rules)  -- returns-2
-    (λ c. search rules)  -- add-way
-    (λ c. search rules)  -- loop-less
-    (λ c. search rules)  -- loop-again
+    (λ c. search rules)  -- loop-way-init
+    (λ c κs. search rules)  -- dense_way-requires
+    (λ c. search rules)  -- returns-then-not-dense_way
+    (λ c κs. search rules)  -- dense_way-requires-in-loop-way
+    (λ c. search rules)  -- returns-then-not-dense_way-2
+    (λ c. search rules)  -- overflow_add-way
+    (λ c. search rules)  -- loop-way-smaller
+    (λ c. search rules)  -- loop-way-preserved
     (λ c. search rules))

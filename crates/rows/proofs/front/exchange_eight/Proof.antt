@@ -8,9 +8,9 @@ pub exchange_eight_spec : {M : Type 1} → statement M
 exchange_eight_spec =
     tie.close
     (tie.spec
-    (λ c κs. search rules)  -- exchange-four-requires
-    (λ c. search rules)  -- add-exchange-four
-    (λ c. search rules)  -- add-exchange-four-2
-    (λ c κs. search rules)  -- exchange-four-requires-2
-    (λ c. search rules)  -- same-length
-    (λ c. let s = c in twice_done 4 _ _ _ _ _ s.requires.0 s.requires.1 c.exchange_four.ensures c.exchange_four-2.ensures))
+    (λ c κs. search rules)  -- exchange_four-requires
+    (λ c. search rules)  -- overflow_add-p
+    (λ c. search rules)  -- overflow_add-q
+    (λ c κs. search rules)  -- exchange_four-requires-2
+    (λ c. search rules)  -- shape_of-numbers
+    (λ c. twice_done 4 _ _ _ _ _ c.requires.0 c.requires.1 c.exchange_four.ensures c.exchange_four-2.ensures))

@@ -19,16 +19,16 @@ exchange_front_spec =
     (tie.spec
     invariant_loop
     decreases_loop
-    (λ c κs. search rules)  -- exchange-eight-requires
-    (λ c. search rules)  -- same-length
-    (λ c. search rules)  -- returns
-    (λ c. search (rules, front_begin))  -- loop-holds
-    (λ c. search rules)  -- add-exchange-some
-    (λ c. search rules)  -- add-exchange-some-2
-    (λ c. search rules)  -- sub-exchange-some
-    (λ c κs. search rules)  -- exchange-some-requires
-    (λ c. search rules)  -- add-i
-    (λ c. search rules)  -- loop-less
-    (λ c. let s = c in front_turn c.loop-i.invariant (omega (arith, c.loop-i-test.true, s.requires.0)) c.exchange_some-i.ensures c.numbers-in-loop-i-1.given)  -- loop-again
-    (λ c. search rules)  -- same-length-2
+    (λ c κs. search rules)  -- exchange_eight-requires
+    (λ c. search rules)  -- shape_of-numbers-then-n-ge8
+    (λ c. search rules)  -- returns-then-n-ge8
+    (λ c. search (rules, front_begin))  -- loop-i-init
+    (λ c. search rules)  -- overflow_add-p
+    (λ c. search rules)  -- overflow_add-q
+    (λ c. search rules)  -- overflow_sub-n
+    (λ c κs. search rules)  -- exchange_some-i-requires
+    (λ c. search rules)  -- overflow_add-i
+    (λ c. search rules)  -- loop-i-smaller
+    (λ c. front_turn c.loop-i.invariant (omega (arith, c.loop-i-test.true, c.requires.0)) c.exchange_some-i.ensures c.numbers-in-loop-i-1.given)  -- loop-i-preserved
+    (λ c. search rules)  -- shape_of-numbers
     (λ c. front_end (none_done _ _ _ _) c.loop-i.invariant refl c.loop-i-test.false))

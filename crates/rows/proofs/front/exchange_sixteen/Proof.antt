@@ -8,9 +8,9 @@ pub exchange_sixteen_spec : {M : Type 1} → statement M
 exchange_sixteen_spec =
     tie.close
     (tie.spec
-    (λ c κs. search rules)  -- exchange-eight-requires
-    (λ c. search rules)  -- add-exchange-eight
-    (λ c. search rules)  -- add-exchange-eight-2
-    (λ c κs. search rules)  -- exchange-eight-requires-2
-    (λ c. search rules)  -- same-length
-    (λ c. let s = c in twice_done 8 _ _ _ _ _ s.requires.0 s.requires.1 c.exchange_eight.ensures c.exchange_eight-2.ensures))
+    (λ c κs. search rules)  -- exchange_eight-requires
+    (λ c. search rules)  -- overflow_add-p
+    (λ c. search rules)  -- overflow_add-q
+    (λ c κs. search rules)  -- exchange_eight-requires-2
+    (λ c. search rules)  -- shape_of-numbers
+    (λ c. twice_done 8 _ _ _ _ _ c.requires.0 c.requires.1 c.exchange_eight.ensures c.exchange_eight-2.ensures))

@@ -8,9 +8,9 @@ pub exchange_thirty_two_spec : {M : Type 1} → statement M
 exchange_thirty_two_spec =
     tie.close
     (tie.spec
-    (λ c κs. search rules)  -- exchange-sixteen-requires
-    (λ c. search rules)  -- add-exchange-sixteen
-    (λ c. search rules)  -- add-exchange-sixteen-2
-    (λ c κs. search rules)  -- exchange-sixteen-requires-2
-    (λ c. search rules)  -- same-length
-    (λ c. let s = c in twice_done 16 _ _ _ _ _ s.requires.0 s.requires.1 c.exchange_sixteen.ensures c.exchange_sixteen-2.ensures))
+    (λ c κs. search rules)  -- exchange_sixteen-requires
+    (λ c. search rules)  -- overflow_add-p
+    (λ c. search rules)  -- overflow_add-q
+    (λ c κs. search rules)  -- exchange_sixteen-requires-2
+    (λ c. search rules)  -- shape_of-numbers
+    (λ c. twice_done 16 _ _ _ _ _ c.requires.0 c.requires.1 c.exchange_sixteen.ensures c.exchange_sixteen-2.ensures))

@@ -18,18 +18,18 @@ clear_above_spec =
     (tie.spec
     invariant_loop
     decreases_loop
-    (λ c. search rules)  -- shl-bit
-    (λ c. search (rules, above_begin, column_of))  -- loop-holds
-    (λ c. let h = above_place c.loop-i.invariant c.loop-i-test.true in search rules)  -- mul-if1
-    (λ c. let h = above_place c.loop-i.invariant c.loop-i-test.true in search rules)  -- add-if1
-    (λ c. let h = above_place c.loop-i.invariant c.loop-i-test.true in search rules)  -- mul-if1-2
-    (λ c. let h = above_place c.loop-i.invariant c.loop-i-test.true in search rules)  -- slice-read-if1
-    (λ c. search rules)  -- add-i
-    (λ c. search rules)  -- loop-less
-    (λ c. search (rules, above_skip))  -- loop-again
-    (λ c κs. search rules)  -- xor-row-requires
-    (λ c. search rules)  -- add-i-2
-    (λ c. search rules)  -- loop-less-2
-    (λ c. let l = c in above_turn l.loop-i.invariant c.loop-i-test.true c.if-words-i-eq0.false c.xor_row.ensures)  -- loop-again-2
-    (λ c. search rules)  -- same-length
+    (λ c. search rules)  -- overflow_shl-bit
+    (λ c. search (rules, above_begin, column_of))  -- loop-i-init
+    (λ c. let h = above_place c.loop-i.invariant c.loop-i-test.true in search rules)  -- overflow_mul-i
+    (λ c. let h = above_place c.loop-i.invariant c.loop-i-test.true in search rules)  -- overflow_add-i
+    (λ c. let h = above_place c.loop-i.invariant c.loop-i-test.true in search rules)  -- offset_bounds-words-i
+    (λ c. let h = above_place c.loop-i.invariant c.loop-i-test.true in search rules)  -- bounds-words-i
+    (λ c. search rules)  -- overflow_step-i
+    (λ c. search rules)  -- loop-i-smaller-then-words-i-eq0
+    (λ c. search (rules, above_skip))  -- loop-i-preserved-then-words-i-eq0
+    (λ c κs. search rules)  -- xor_row-requires
+    (λ c. search rules)  -- overflow_step-i-in-loop-i
+    (λ c. search rules)  -- loop-i-smaller
+    (λ c. above_turn c.loop-i.invariant c.loop-i-test.true c.if-words-i-eq0.false c.xor_row.ensures)  -- loop-i-preserved
+    (λ c. search rules)  -- shape_of-words
     (λ c. search (rules, above_end)))

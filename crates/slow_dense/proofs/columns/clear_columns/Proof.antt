@@ -15,38 +15,32 @@ decreases_loop n m w numbers₀ words₀ rank₀ col₀ numbers words rank col =
 -- what the search answered, by the arm that was taken
 take_pivot_requires : tie.Need-take_pivot-requires invariant_loop decreases_loop
 take_pivot_requires c κs =
-    let l = c in
-    let h = columns_place l.loop-col.invariant (sym c.in-At.is ∙ c.find_pivot.ensures) in
+    let h = columns_place c.loop-col.invariant (sym c.in-At.is ∙ c.find_pivot.ensures) in
     search rules
 
 clear_above_requires : tie.Need-clear_above-requires invariant_loop decreases_loop
 clear_above_requires c κs =
-    let l = c in
-    let h = columns_place l.loop-col.invariant (sym c.in-At.is ∙ c.find_pivot.ensures) in
+    let h = columns_place c.loop-col.invariant (sym c.in-At.is ∙ c.find_pivot.ensures) in
     search rules
 
 mul_numbers : tie.Need-offset_bounds-numbers-rank invariant_loop decreases_loop
 mul_numbers c =
-    let l = c in
-    let h = columns_place l.loop-col.invariant (sym c.in-At.is ∙ c.find_pivot.ensures) in
+    let h = columns_place c.loop-col.invariant (sym c.in-At.is ∙ c.find_pivot.ensures) in
     search rules
 
 slice_write_numbers : tie.Need-bounds-numbers-rank invariant_loop decreases_loop
 slice_write_numbers c =
-    let l = c in
-    let h = columns_place l.loop-col.invariant (sym c.in-At.is ∙ c.find_pivot.ensures) in
+    let h = columns_place c.loop-col.invariant (sym c.in-At.is ∙ c.find_pivot.ensures) in
     search rules
 
 add_rank : tie.Need-overflow_add-rank invariant_loop decreases_loop
 add_rank c =
-    let l = c in
-    let h = columns_place l.loop-col.invariant (sym c.in-At.is ∙ c.find_pivot.ensures) in
+    let h = columns_place c.loop-col.invariant (sym c.in-At.is ∙ c.find_pivot.ensures) in
     search rules
 
 loop_again_2 : tie.Need-loop-col-preserved invariant_loop decreases_loop
 loop_again_2 c =
-    let l = c in
-    columns_turn l.loop-col.invariant c.loop-col-test.true
+    columns_turn c.loop-col.invariant c.loop-col-test.true
     (sym c.in-At.is ∙ c.find_pivot.ensures)
     c.take_pivot.ensures c.clear_above.ensures
 
@@ -56,22 +50,22 @@ clear_columns_spec =
     (tie.spec
     invariant_loop
     decreases_loop
-    (λ c. search (rules, columns_begin))  -- loop-holds
-    (λ c κs. search rules)  -- find-pivot-requires
-    (λ c. search rules)  -- enum-known-pivot
-    (λ c. search rules)  -- enum_told
-    (λ c. search rules)  -- add-col
-    (λ c. search rules)  -- loop-less
-    (λ c. columns_skip c.loop-col.invariant c.loop-col-test.true (sym c.in_default.is ∙ c.find_pivot.ensures))  -- loop-again
+    (λ c. search (rules, columns_begin))  -- loop-col-init
+    (λ c κs. search rules)  -- find_pivot-requires
+    (λ c. search rules)  -- enum_known-pivot
+    (λ c. search rules)  -- enum_told-1
+    (λ c. search rules)  -- overflow_step-col
+    (λ c. search rules)  -- loop-col-smaller-in_default
+    (λ c. columns_skip c.loop-col.invariant c.loop-col-test.true (sym c.in_default.is ∙ c.find_pivot.ensures))  -- loop-col-preserved-in_default
     take_pivot_requires
     clear_above_requires
-    (λ c. search rules)  -- cast-numbers
+    (λ c. search rules)  -- overflow_cast-numbers
     mul_numbers
     slice_write_numbers
     add_rank
-    (λ c. search rules)  -- add-col-2
-    (λ c. search rules)  -- loop-less-2
+    (λ c. search rules)  -- overflow_step-col-in-loop-col
+    (λ c. search rules)  -- loop-col-smaller
     loop_again_2
-    (λ c. search rules)  -- same-length
-    (λ c. search rules)  -- same-length-2
+    (λ c. search rules)  -- shape_of-numbers
+    (λ c. search rules)  -- shape_of-words
     (λ c. columns_end c.loop-col.invariant c.loop-col-test.false))

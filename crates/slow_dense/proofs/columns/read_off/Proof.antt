@@ -18,18 +18,18 @@ read_off_spec =
     (tie.spec
     invariant_loop
     decreases_loop
-    (λ c. search (rules, reading_begin))  -- loop-holds
-    (λ c. search rules)  -- mul-pivot
-    (λ c. search rules)  -- shared-slice-read-pivot
-    (λ c. omega (arith, c.shared_slice_known-1.given c.loop-i.i))  -- cast-pivot
-    (λ c. let h = reading_constant c.loop-i.invariant c.loop-i-test.true in search rules)  -- mul-solution
-    (λ c. let h = reading_constant c.loop-i.invariant c.loop-i-test.true in search rules)  -- add-solution
-    (λ c. let h = reading_constant c.loop-i.invariant c.loop-i-test.true in search rules)  -- mul-solution-2
-    (λ c. let h = reading_constant c.loop-i.invariant c.loop-i-test.true in search rules)  -- shared-slice-read-solution
-    (λ c. let h = reading_cell c.loop-i.invariant c.loop-i-test.true in search rules)  -- mul-solution-3
-    (λ c. let h = reading_cell c.loop-i.invariant c.loop-i-test.true in search rules)  -- slice-write-solution
-    (λ c. search rules)  -- add-i
-    (λ c. search rules)  -- loop-less
-    (λ c. reading_turn c.loop-i.invariant c.loop-i-test.true)  -- loop-again
-    (λ c. search rules)  -- same-length
+    (λ c. search (rules, reading_begin))  -- loop-i-init
+    (λ c. search rules)  -- offset_bounds-numbers-i
+    (λ c. search rules)  -- bounds-numbers-i
+    (λ c. omega (arith, c.shared_slice_known-1.given c.loop-i.i))  -- overflow_cast-pivot
+    (λ c. let h = reading_constant c.loop-i.invariant c.loop-i-test.true in search rules)  -- overflow_mul-solution
+    (λ c. let h = reading_constant c.loop-i.invariant c.loop-i-test.true in search rules)  -- overflow_add-solution
+    (λ c. let h = reading_constant c.loop-i.invariant c.loop-i-test.true in search rules)  -- offset_bounds-words-m
+    (λ c. let h = reading_constant c.loop-i.invariant c.loop-i-test.true in search rules)  -- bounds-words-m
+    (λ c. let h = reading_cell c.loop-i.invariant c.loop-i-test.true in search rules)  -- offset_bounds-solution-pivot
+    (λ c. let h = reading_cell c.loop-i.invariant c.loop-i-test.true in search rules)  -- bounds-solution-pivot
+    (λ c. search rules)  -- overflow_step-i
+    (λ c. search rules)  -- loop-i-smaller
+    (λ c. reading_turn c.loop-i.invariant c.loop-i-test.true)  -- loop-i-preserved
+    (λ c. search rules)  -- shape_of-solution
     (λ c. search (rules, reading_end)))

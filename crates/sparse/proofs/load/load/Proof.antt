@@ -23,25 +23,25 @@ load_spec =
     (tie.spec
     invariant_loop
     decreases_loop
-    (λ c κs. let s = c in (s.requires.1, s.requires.2))  -- clear-requires
-    (λ c. let s = c in (loading_begin _ _ _ _ _ _ _ s.requires.0.many c.clear.ensures.0 c.clear.ensures.1, refl, refl))  -- loop-holds
-    (λ c. let s = c in let h = s.requires.0.starts_long in search rules)  -- mul-from
-    (λ c. let s = c in omega (arith, s.requires.0.starts_long, c.loop-i-test.true))  -- shared-slice-read-from
-    (λ c. omega (arith, c.shared_slice_known-in-loop-i-1.given c.loop-i.i))  -- cast-from
-    (λ c. search rules)  -- add-to
-    (λ c. let s = c in let h = s.requires.0.starts_long in search rules)  -- mul-to
-    (λ c. let s = c in omega (arith, s.requires.0.starts_long, c.loop-i-test.true))  -- shared-slice-read-to
-    (λ c. omega (arith, c.shared_slice_known-in-loop-i-2-1.given (c.loop-i.i + 1)))  -- cast-to
-    (λ c. let s = c in let l = c in let t = c.loop-i-test.true in let a = s.requires.0.climbing l.loop-i.i (l.loop-i.i + 1) (omega arith) (omega arith) in let b = s.requires.0.within (l.loop-i.i + 1) (omega arith) in search rules)  -- mul-store-row
-    (λ c. let s = c in let l = c in let t = c.loop-i-test.true in let a = s.requires.0.climbing l.loop-i.i (l.loop-i.i + 1) (omega arith) (omega arith) in let b = s.requires.0.within (l.loop-i.i + 1) (omega arith) in search rules)  -- sub-store-row
-    (λ c. let s = c in let l = c in let t = c.loop-i-test.true in let a = s.requires.0.climbing l.loop-i.i (l.loop-i.i + 1) (omega arith) (omega arith) in let b = s.requires.0.within (l.loop-i.i + 1) (omega arith) in search rules)  -- part-store-row-start
-    (λ c. let s = c in let l = c in let t = c.loop-i-test.true in let a = s.requires.0.climbing l.loop-i.i (l.loop-i.i + 1) (omega arith) (omega arith) in let b = s.requires.0.within (l.loop-i.i + 1) (omega arith) in search rules)  -- part-store-row-end
-    (λ c. search rules)  -- mul-store-row-2
-    (λ c. let s = c in omega (arith, s.requires.0.constants_long, c.loop-i-test.true))  -- shared-slice-read-store-row
-    (λ c κs. let s = c in ((loading_held c.loop-i.invariant.0, c.loop-i-test.true, s.requires.0.few_variables), (loading_empty c.loop-i.invariant.0 c.loop-i-test.true, equation_rising s.requires.0 _ c.loop-i-test.true)))  -- store-row-requires
-    (λ c. search rules)  -- add-i
-    (λ c. search rules)  -- loop-less
-    (λ c. (loading_turn c.loop-i.invariant.0 c.loop-i-test.true _ _ _ (equation_read _ _ _ _ _ c.loop-i-test.true) c.store_row.ensures, search rules, search rules))  -- loop-again
-    (λ c. search rules)  -- same-length
-    (λ c. search rules)  -- same-length-2
+    (λ c κs. (c.requires.1, c.requires.2))  -- clear-requires
+    (λ c. (loading_begin _ _ _ _ _ _ _ c.requires.0.many c.clear.ensures.0 c.clear.ensures.1, refl, refl))  -- loop-i-init
+    (λ c. let h = c.requires.0.starts_long in search rules)  -- offset_bounds-starts-i
+    (λ c. omega (arith, c.requires.0.starts_long, c.loop-i-test.true))  -- bounds-starts-i
+    (λ c. omega (arith, c.shared_slice_known-in-loop-i-1.given c.loop-i.i))  -- overflow_cast-from
+    (λ c. search rules)  -- overflow_add-to
+    (λ c. let h = c.requires.0.starts_long in search rules)  -- offset_bounds-starts-i-in-loop-i
+    (λ c. omega (arith, c.requires.0.starts_long, c.loop-i-test.true))  -- bounds-starts-i-in-loop-i
+    (λ c. omega (arith, c.shared_slice_known-in-loop-i-2-1.given (c.loop-i.i + 1)))  -- overflow_cast-to
+    (λ c. let t = c.loop-i-test.true in let a = c.requires.0.climbing c.loop-i.i (c.loop-i.i + 1) (omega arith) (omega arith) in let b = c.requires.0.within (c.loop-i.i + 1) (omega arith) in search rules)  -- offset_bounds-vars-from
+    (λ c. let t = c.loop-i-test.true in let a = c.requires.0.climbing c.loop-i.i (c.loop-i.i + 1) (omega arith) (omega arith) in let b = c.requires.0.within (c.loop-i.i + 1) (omega arith) in search rules)  -- slice_bounds-store_row-count
+    (λ c. let t = c.loop-i-test.true in let a = c.requires.0.climbing c.loop-i.i (c.loop-i.i + 1) (omega arith) (omega arith) in let b = c.requires.0.within (c.loop-i.i + 1) (omega arith) in search rules)  -- slice_bounds-store_row-start
+    (λ c. let t = c.loop-i-test.true in let a = c.requires.0.climbing c.loop-i.i (c.loop-i.i + 1) (omega arith) (omega arith) in let b = c.requires.0.within (c.loop-i.i + 1) (omega arith) in search rules)  -- slice_bounds-store_row-end
+    (λ c. search rules)  -- offset_bounds-constants-i
+    (λ c. omega (arith, c.requires.0.constants_long, c.loop-i-test.true))  -- bounds-constants-i
+    (λ c κs. ((loading_held c.loop-i.invariant.0, c.loop-i-test.true, c.requires.0.few_variables), (loading_empty c.loop-i.invariant.0 c.loop-i-test.true, equation_rising c.requires.0 _ c.loop-i-test.true)))  -- store_row-requires
+    (λ c. search rules)  -- overflow_add-i
+    (λ c. search rules)  -- loop-i-smaller
+    (λ c. (loading_turn c.loop-i.invariant.0 c.loop-i-test.true _ _ _ (equation_read _ _ _ _ _ c.loop-i-test.true) c.store_row.ensures, search rules, search rules))  -- loop-i-preserved
+    (λ c. search rules)  -- shape_of-numbers
+    (λ c. search rules)  -- shape_of-words
     (λ c. loaded_all _ _ c.clear.ensures.0 c.clear.ensures.1 (loading_end c.loop-i.invariant.0 c.loop-i-test.false)))

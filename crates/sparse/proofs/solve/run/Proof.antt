@@ -10,16 +10,16 @@ pub run_spec : {M : Type 1} → statement M
 run_spec =
     tie.close
     (tie.spec
-    (λ c κs. let s = c in (s.requires.0, s.requires.2, s.requires.3))  -- load-requires
-    (λ c κs. let s = c in (held c.load.ensures, omega arith, s.requires.0.few_variables, search rules, s.requires.0.few_equations))  -- solve-rows-requires
+    (λ c κs. (c.requires.0, c.requires.2, c.requires.3))  -- load-requires
+    (λ c κs. (held c.load.ensures, omega arith, c.requires.0.few_variables, search rules, c.requires.0.few_equations))  -- solve_rows-r-requires
     (λ c κs. c.solve_rows-r.ensures.1.0.held)  -- empty-requires
-    (λ c. search rules)  -- enum_told
-    (λ c. search rules)  -- enum-told-2
-    (λ c. search rules)  -- same-length
-    (λ c. search rules)  -- same-length-2
-    (λ c. search rules)  -- same-length-3
-    (λ c. run_refused _ _ _ _ _ _ _ _ _ _ _ c.load.ensures c.solve_rows-r.ensures.1.0 c.empty.ensures.0 c.empty.ensures.1 c.solve_rows-r.ensures.1.1 _ _ c.solve_rows-r.ensures.0 c.in-Unsolvable.is)  -- returns
-    (λ c. search rules)  -- same-length-4
-    (λ c. search rules)  -- same-length-5
-    (λ c. search rules)  -- same-length-6
+    (λ c. search rules)  -- enum_told-1
+    (λ c. search rules)  -- enum_told-in-Reduced
+    (λ c. search rules)  -- shape_of-solution-in-Unsolvable
+    (λ c. search rules)  -- shape_of-numbers-in-Unsolvable
+    (λ c. search rules)  -- shape_of-words-in-Unsolvable
+    (λ c. run_refused _ _ _ _ _ _ _ _ _ _ _ c.load.ensures c.solve_rows-r.ensures.1.0 c.empty.ensures.0 c.empty.ensures.1 c.solve_rows-r.ensures.1.1 _ _ c.solve_rows-r.ensures.0 c.in-Unsolvable.is)  -- returns-in-Unsolvable
+    (λ c. search rules)  -- shape_of-solution-in-Reduced
+    (λ c. search rules)  -- shape_of-numbers-in-Reduced
+    (λ c. search rules)  -- shape_of-words-in-Reduced
     (λ c. run_solved _ _ _ _ _ _ _ _ _ _ _ c.load.ensures c.solve_rows-r.ensures.1.0 c.empty.ensures.0 c.empty.ensures.1 c.solve_rows-r.ensures.1.1 _ _ c.solve_rows-r.ensures.0 c.in-Reduced.is))

@@ -19,10 +19,10 @@ any_unsolvable_spec =
     (tie.spec
     invariant_loop
     decreases_loop
-    (λ c. let s = c in checking_begin _ _ (omega (arith, s.requires.0.count, s.requires.1)))  -- loop-holds
-    (λ c κs. let s = c in (s.requires.0, omega (arith, s.requires.1, c.loop-i-test.true)))  -- is-unsolvable-requires
-    (λ c. checking_stop c.loop-i.invariant c.loop-i-test.true c.is_unsolvable.ensures c.if-is_unsolvable.true)  -- returns
-    (λ c. search rules)  -- add-i
-    (λ c. search rules)  -- loop-less
-    (λ c. checking_turn c.loop-i.invariant c.loop-i-test.true c.is_unsolvable.ensures c.if-is_unsolvable.false)  -- loop-again
+    (λ c. checking_begin _ _ (omega (arith, c.requires.0.count, c.requires.1)))  -- loop-i-init
+    (λ c κs. (c.requires.0, omega (arith, c.requires.1, c.loop-i-test.true)))  -- is_unsolvable-requires
+    (λ c. checking_stop c.loop-i.invariant c.loop-i-test.true c.is_unsolvable.ensures c.if-is_unsolvable.true)  -- returns-then-is_unsolvable
+    (λ c. search rules)  -- overflow_add-i
+    (λ c. search rules)  -- loop-i-smaller
+    (λ c. checking_turn c.loop-i.invariant c.loop-i-test.true c.is_unsolvable.ensures c.if-is_unsolvable.false)  -- loop-i-preserved
     (λ c. checking_end c.loop-i.invariant c.loop-i-test.false))

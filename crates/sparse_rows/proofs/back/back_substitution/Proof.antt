@@ -19,11 +19,11 @@ back_substitution_spec =
     (tie.spec
     invariant_loop
     decreases_loop
-    (λ c. let s = c in backing_begin _ _ _ (omega (arith, s.requires.0.count, s.requires.1)))  -- loop-holds
-    (λ c. search rules)  -- sub-pin-row
-    (λ c κs. let s = c in (s.requires.0, omega (arith, c.loop-i.invariant.within, s.requires.1, c.loop-i-test.true), c.loop-i.invariant.size ∙ s.requires.2))  -- pin-row-requires
-    (λ c. search rules)  -- sub-i
-    (λ c. search rules)  -- loop-less
-    (λ c. backing_turn _ c.loop-i.invariant c.loop-i-test.true c.pin_row.ensures (search rules))  -- loop-again
-    (λ c. search rules)  -- same-length
+    (λ c. backing_begin _ _ _ (omega (arith, c.requires.0.count, c.requires.1)))  -- loop-i-init
+    (λ c. search rules)  -- overflow_sub-i
+    (λ c κs. (c.requires.0, omega (arith, c.loop-i.invariant.within, c.requires.1, c.loop-i-test.true), c.loop-i.invariant.size ∙ c.requires.2))  -- pin_row-requires
+    (λ c. search rules)  -- overflow_sub-i-in-loop-i
+    (λ c. search rules)  -- loop-i-smaller
+    (λ c. backing_turn _ c.loop-i.invariant c.loop-i-test.true c.pin_row.ensures (search rules))  -- loop-i-preserved
+    (λ c. search rules)  -- shape_of-solution
     (λ c. backing_end c.loop-i.invariant c.loop-i-test.false))

@@ -8,12 +8,12 @@ pub is_unsolvable_spec : {M : Type 1} → statement M
 is_unsolvable_spec =
     tie.close
     (tie.spec
-    (λ c. search rules)  -- mul-if1
-    (λ c. search rules)  -- add-if1
-    (λ c. search rules)  -- add-if1-2
-    (λ c. search rules)  -- mul-if1-2
-    (λ c. search rules)  -- shared-slice-read-if1
-    (λ c. let s = c in solvable_full s.requires.0 _ s.requires.1 c.if-numbers-m-ne0.true)  -- returns
-    (λ c. search rules)  -- mul-result
-    (λ c. search rules)  -- shared-slice-read-result
-    (λ c. let s = c in unsolvable_empty s.requires.0 _ s.requires.1 c.if-numbers-m-ne0.false))
+    (λ c. search rules)  -- overflow_mul-m
+    (λ c. search rules)  -- overflow_add-m
+    (λ c. search rules)  -- overflow_add-m-2
+    (λ c. search rules)  -- offset_bounds-numbers-m
+    (λ c. search rules)  -- bounds-numbers-m
+    (λ c. solvable_full c.requires.0 _ c.requires.1 c.if-numbers-m-ne0.true)  -- returns-then-numbers-m-ne0
+    (λ c. search rules)  -- offset_bounds-words-i
+    (λ c. search rules)  -- bounds-words-i
+    (λ c. unsolvable_empty c.requires.0 _ c.requires.1 c.if-numbers-m-ne0.false))

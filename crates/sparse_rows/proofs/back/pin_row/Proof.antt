@@ -12,26 +12,26 @@ pub pin_row_spec : {M : Type 1} → statement M
 pin_row_spec =
     tie.close
     (tie.spec
-    (λ c. search rules)  -- mul-l
-    (λ c. search rules)  -- add-l
-    (λ c. search rules)  -- add-l-2
-    (λ c. search rules)  -- mul-l-2
-    (λ c. search rules)  -- shared-slice-read-l
-    (λ c. let s = c in omega (arith, c.shared_slice_known-3-1.given (s.args.m * s.args.n + s.args.n + s.args.i)))  -- cast-l
-    (λ c. let s = c in pin_skip s.requires.0 _ s.requires.1 _ s.requires.2 c.if-l-eq0.true)  -- returns
-    (λ c. let s = c in let h = row_fits s.requires.0 _ s.requires.1 in record { fits = omega arith })  -- mul-p
-    (λ c. let s = c in let h = row_fits s.requires.0 _ s.requires.1 in record { fits = omega arith })  -- add-eval-vars
-    (λ c. let s = c in let h = first_in s.requires.0 _ s.requires.1 c.if-l-eq0.false in search rules)  -- mul-eval-vars
-    (λ c. search rules)  -- sub-eval-vars
-    (λ c. search rules)  -- part-eval-vars-start
-    (λ c. let s = c in let h = row_fits s.requires.0 _ s.requires.1 in omega (arith, s.requires.0.numbers_room_lem))  -- part-eval-vars-end
-    (λ c κs. let s = c in pin_listed s.requires.0 _ s.requires.1 s.args.solution.now s.requires.2)  -- eval-vars-requires
-    (λ c. let s = c in let h = first_in s.requires.0 _ s.requires.1 c.if-l-eq0.false in search rules)  -- mul-v
-    (λ c. let s = c in let h = first_in s.requires.0 _ s.requires.1 c.if-l-eq0.false in omega (arith, s.requires.0.numbers_room_lem))  -- shared-slice-read-v
-    (λ c. let s = c in omega (arith, c.shared_slice_known-4-1.given (s.args.i * s.args.n)))  -- cast-v
-    (λ c. search rules)  -- mul-solution
-    (λ c. search rules)  -- shared-slice-read-solution
-    (λ c. let s = c in let h = pin_place s.requires.0 _ s.requires.1 s.args.solution.now s.requires.2 c.if-l-eq0.false in search rules)  -- mul-solution-2
-    (λ c. let s = c in pin_place s.requires.0 _ s.requires.1 s.args.solution.now s.requires.2 c.if-l-eq0.false)  -- slice-write-solution
-    (λ c. search rules)  -- same-length
-    (λ c. let s = c in pin_done s.requires.0 _ s.requires.1 s.args.solution.now s.requires.2 c.if-l-eq0.false _ c.eval_vars-sum.ensures))
+    (λ c. search rules)  -- overflow_mul-l
+    (λ c. search rules)  -- overflow_add-l
+    (λ c. search rules)  -- overflow_add-l-2
+    (λ c. search rules)  -- offset_bounds-numbers-m
+    (λ c. search rules)  -- bounds-numbers-m
+    (λ c. omega (arith, c.shared_slice_known-3-1.given (c.args.m * c.args.n + c.args.n + c.args.i)))  -- overflow_cast-l
+    (λ c. pin_skip c.requires.0 _ c.requires.1 _ c.requires.2 c.if-l-eq0.true)  -- returns-then-l-eq0
+    (λ c. let h = row_fits c.requires.0 _ c.requires.1 in record { fits = omega arith })  -- overflow_mul-p
+    (λ c. let h = row_fits c.requires.0 _ c.requires.1 in record { fits = omega arith })  -- overflow_add-p
+    (λ c. let h = first_in c.requires.0 _ c.requires.1 c.if-l-eq0.false in search rules)  -- offset_bounds-numbers-p
+    (λ c. search rules)  -- slice_bounds-eval_vars-count
+    (λ c. search rules)  -- slice_bounds-eval_vars-start
+    (λ c. let h = row_fits c.requires.0 _ c.requires.1 in omega (arith, c.requires.0.numbers_room_lem))  -- slice_bounds-eval_vars-end
+    (λ c κs. pin_listed c.requires.0 _ c.requires.1 c.args.solution.now c.requires.2)  -- eval_vars-sum-requires
+    (λ c. let h = first_in c.requires.0 _ c.requires.1 c.if-l-eq0.false in search rules)  -- offset_bounds-numbers-p-2
+    (λ c. let h = first_in c.requires.0 _ c.requires.1 c.if-l-eq0.false in omega (arith, c.requires.0.numbers_room_lem))  -- bounds-numbers-p
+    (λ c. omega (arith, c.shared_slice_known-4-1.given (c.args.i * c.args.n)))  -- overflow_cast-v
+    (λ c. search rules)  -- offset_bounds-words-i
+    (λ c. search rules)  -- bounds-words-i
+    (λ c. let h = pin_place c.requires.0 _ c.requires.1 c.args.solution.now c.requires.2 c.if-l-eq0.false in search rules)  -- offset_bounds-solution-v
+    (λ c. pin_place c.requires.0 _ c.requires.1 c.args.solution.now c.requires.2 c.if-l-eq0.false)  -- bounds-solution-v
+    (λ c. search rules)  -- shape_of-solution
+    (λ c. pin_done c.requires.0 _ c.requires.1 c.args.solution.now c.requires.2 c.if-l-eq0.false _ c.eval_vars-sum.ensures))

@@ -27,18 +27,18 @@ echelon_form_spec =
     (tie.spec
     invariant_loop
     decreases_loop
-    (λ c. let s = c in (reducing_begin s.requires.0 s.requires.1, refl, refl, search rules, tally_same tally_begin (form_whole s.requires.0 s.requires.1)))  -- loop-holds
-    (λ c. search rules)  -- add-loop
-    (λ c κs. let s = c in (reducing_held c.loop-i.invariant.0, omega (arith, c.loop-i-test.true), s.requires.1, s.requires.2))  -- outer-row-requires
-    (λ c. let s = c in let v = c.loop-i.invariant in let o = c.outer_row-row.ensures in let f = tally_fits v.4 o.1 (form_least (reducing_held v.0) s.requires.1 _ c.loop-i-test.true) refl (form_room s.requires.0 s.requires.1 s.requires.2 s.requires.3) in record { fits = omega arith })  -- add-cancelled
-    (λ c. search rules)  -- enum_told
-    (λ c. search rules)  -- same-length
-    (λ c. search rules)  -- same-length-2
-    (λ c. let v = c.loop-i.invariant in let t = c.loop-i-test.true in let o = c.outer_row-row.ensures in let e = c.in-Unsolvable.is in (reducing_stop v.0 t o.0 e, tally_last v.4 o.1 (form_stop (reducing_held v.0) v.0.d_in _ t o.0 e) refl))  -- returns
-    (λ c. search rules)  -- enum-told-2
-    (λ c. search rules)  -- add-i
-    (λ c. search rules)  -- loop-less
-    (λ c. let v = c.loop-i.invariant in let t = c.loop-i-test.true in let o = c.outer_row-row.ensures in let e = c.in-Reduced.is in (reducing_turn v.0 t o.0 e, search rules, search rules, search rules, tally_turn v.4 o.1 (form_turn (reducing_held v.0) v.0.d_in _ t o.0 e)))  -- loop-again
-    (λ c. search rules)  -- same-length-3
-    (λ c. search rules)  -- same-length-4
+    (λ c. (reducing_begin c.requires.0 c.requires.1, refl, refl, search rules, tally_same tally_begin (form_whole c.requires.0 c.requires.1)))  -- loop-i-init
+    (λ c. search rules)  -- overflow_add-i
+    (λ c κs. (reducing_held c.loop-i.invariant.0, omega (arith, c.loop-i-test.true), c.requires.1, c.requires.2))  -- outer_row-row-requires
+    (λ c. let v = c.loop-i.invariant in let o = c.outer_row-row.ensures in let f = tally_fits v.4 o.1 (form_least (reducing_held v.0) c.requires.1 _ c.loop-i-test.true) refl (form_room c.requires.0 c.requires.1 c.requires.2 c.requires.3) in record { fits = omega arith })  -- overflow_add-cancelled
+    (λ c. search rules)  -- enum_told-1
+    (λ c. search rules)  -- shape_of-numbers-in-Unsolvable
+    (λ c. search rules)  -- shape_of-words-in-Unsolvable
+    (λ c. let v = c.loop-i.invariant in let t = c.loop-i-test.true in let o = c.outer_row-row.ensures in let e = c.in-Unsolvable.is in (reducing_stop v.0 t o.0 e, tally_last v.4 o.1 (form_stop (reducing_held v.0) v.0.d_in _ t o.0 e) refl))  -- returns-in-Unsolvable
+    (λ c. search rules)  -- enum_told-in-Reduced
+    (λ c. search rules)  -- overflow_add-i-in-Reduced
+    (λ c. search rules)  -- loop-i-smaller
+    (λ c. let v = c.loop-i.invariant in let t = c.loop-i-test.true in let o = c.outer_row-row.ensures in let e = c.in-Reduced.is in (reducing_turn v.0 t o.0 e, search rules, search rules, search rules, tally_turn v.4 o.1 (form_turn (reducing_held v.0) v.0.d_in _ t o.0 e)))  -- loop-i-preserved
+    (λ c. search rules)  -- shape_of-numbers
+    (λ c. search rules)  -- shape_of-words
     (λ c. let v = c.loop-i.invariant in (reducing_end v.0 c.loop-i-test.false, tally_over v.4 (form_over _ _ _ _ _ _ c.loop-i-test.false) refl)))

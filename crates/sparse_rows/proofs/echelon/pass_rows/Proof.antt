@@ -36,28 +36,28 @@ pass_rows_spec =
     (tie.spec
     invariant_loop
     decreases_loop
-    (λ c. search rules)  -- mul-lens
-    (λ c. search rules)  -- add-lens
-    (λ c. let s = c in let h = row_in s.requires.0 s.args.i (omega (arith, s.requires.1, s.requires.2, s.requires.3)) in record { fits = omega arith })  -- mul-u
-    (λ c. let s = c in let h = row_in s.requires.0 s.args.i (omega (arith, s.requires.1, s.requires.2, s.requires.3)) in search rules)  -- mul-u-2
-    (λ c. let s = c in let h = row_in s.requires.0 s.args.i (omega (arith, s.requires.1, s.requires.2, s.requires.3)) in search rules)  -- slice-read-u
-    (λ c. let s = c in (passing_begin s.requires.0 s.requires.1 s.requires.2 s.requires.3 s.requires.4, refl, refl))  -- loop-holds
-    (λ c. let h = passing_in c.loop-k.invariant.0 c.loop-k-test.true in record { fits = omega arith })  -- mul-v
-    (λ c. let h = passing_in c.loop-k.invariant.0 c.loop-k-test.true in search rules)  -- mul-v-2
-    (λ c. let h = passing_in c.loop-k.invariant.0 c.loop-k-test.true in search rules)  -- slice-read-v
-    (λ c. search rules)  -- same-length
-    (λ c. search rules)  -- same-length-2
-    (λ c. (passing_same c.loop-k.invariant.0 c.loop-k-test.true c.if-v-u-2.true, c.loop-k.invariant.0.counts))  -- returns
-    (λ c. search rules)  -- add-if3
-    (λ c. search rules)  -- mul-if3
-    (λ c. search rules)  -- slice-read-if3
-    (λ c. search rules)  -- same-length-3
-    (λ c. search rules)  -- same-length-4
-    (λ c. (passing_empty c.loop-k.invariant.0 c.loop-k-test.true c.if-numbers-lens-eq0.true, c.loop-k.invariant.0.counts))  -- returns-2
-    (λ c κs. let l = c.loop-k.invariant.0 in (passing_held l, l.stands.i_below, k_in l c.loop-k-test.true))  -- swap-rows-requires
-    (λ c. search rules)  -- add-k
-    (λ c. search rules)  -- loop-less
-    (λ c. passed c)  -- loop-again
-    (λ c. search rules)  -- same-length-5
-    (λ c. search rules)  -- same-length-6
+    (λ c. search rules)  -- overflow_mul-lens
+    (λ c. search rules)  -- overflow_add-lens
+    (λ c. let h = row_in c.requires.0 c.args.i (omega (arith, c.requires.1, c.requires.2, c.requires.3)) in record { fits = omega arith })  -- overflow_mul-u
+    (λ c. let h = row_in c.requires.0 c.args.i (omega (arith, c.requires.1, c.requires.2, c.requires.3)) in search rules)  -- offset_bounds-numbers-i
+    (λ c. let h = row_in c.requires.0 c.args.i (omega (arith, c.requires.1, c.requires.2, c.requires.3)) in search rules)  -- bounds-numbers-i
+    (λ c. (passing_begin c.requires.0 c.requires.1 c.requires.2 c.requires.3 c.requires.4, refl, refl))  -- loop-k-init
+    (λ c. let h = passing_in c.loop-k.invariant.0 c.loop-k-test.true in record { fits = omega arith })  -- overflow_mul-v
+    (λ c. let h = passing_in c.loop-k.invariant.0 c.loop-k-test.true in search rules)  -- offset_bounds-numbers-k
+    (λ c. let h = passing_in c.loop-k.invariant.0 c.loop-k-test.true in search rules)  -- bounds-numbers-k
+    (λ c. search rules)  -- shape_of-numbers-then-v-u-2
+    (λ c. search rules)  -- shape_of-words-then-v-u-2
+    (λ c. (passing_same c.loop-k.invariant.0 c.loop-k-test.true c.if-v-u-2.true, c.loop-k.invariant.0.counts))  -- returns-then-v-u-2
+    (λ c. search rules)  -- overflow_add-lens-then-v-u
+    (λ c. search rules)  -- offset_bounds-numbers-lens
+    (λ c. search rules)  -- bounds-numbers-lens
+    (λ c. search rules)  -- shape_of-numbers-then-numbers-lens-eq0
+    (λ c. search rules)  -- shape_of-words-then-numbers-lens-eq0
+    (λ c. (passing_empty c.loop-k.invariant.0 c.loop-k-test.true c.if-numbers-lens-eq0.true, c.loop-k.invariant.0.counts))  -- returns-then-numbers-lens-eq0
+    (λ c κs. let l = c.loop-k.invariant.0 in (passing_held l, l.stands.i_below, k_in l c.loop-k-test.true))  -- swap_rows-requires
+    (λ c. search rules)  -- overflow_add-k
+    (λ c. search rules)  -- loop-k-smaller
+    (λ c. passed c)  -- loop-k-preserved
+    (λ c. search rules)  -- shape_of-numbers
+    (λ c. search rules)  -- shape_of-words
     (λ c. (passing_end c.loop-k.invariant.0 c.loop-k-test.false, c.loop-k.invariant.0.counts)))

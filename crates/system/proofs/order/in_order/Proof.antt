@@ -24,8 +24,7 @@ returns c = search (rules, ordered_low)
 
 returns_2 : tie.Need-returns-then-v-n invariant_loop decreases_loop
 returns_2 c =
-    let l = c in
-    ordered_high l.loop-i.invariant l.loop-i-test.true (search rules) (omega arith)
+    ordered_high c.loop-i.invariant c.loop-i-test.true (search rules) (omega arith)
 
 loop_again : tie.Need-loop-i-preserved invariant_loop decreases_loop
 loop_again c = search (rules, ordered_turn)
@@ -40,13 +39,13 @@ in_order_spec =
     invariant_loop
     decreases_loop
     loop_holds
-    (λ c. search rules)  -- mul-v
-    (λ c. search rules)  -- shared-slice-read-v
+    (λ c. search rules)  -- offset_bounds-vars-i
+    (λ c. search rules)  -- bounds-vars-i
     cast_v
     returns
     returns_2
-    (λ c. search rules)  -- add-low
-    (λ c. search rules)  -- add-i
-    (λ c. search rules)  -- loop-less
+    (λ c. search rules)  -- overflow_add-low
+    (λ c. search rules)  -- overflow_add-i
+    (λ c. search rules)  -- loop-i-smaller
     loop_again
     returns_3)

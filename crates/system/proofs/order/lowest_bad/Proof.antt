@@ -21,13 +21,11 @@ cast_to c = omega (arith, c.shared_slice_known-in-loop-i-2-1.given (c.loop-i.i +
 
 returns : tie.Need-returns-then-not-in_order invariant_loop decreases_loop
 returns c =
-    let l = c in
-    passed_stop l.loop-i.invariant l.loop-i-test.true (sym c.in_order.ensures ∙ c.if-not-in_order.true)
+    passed_stop c.loop-i.invariant c.loop-i-test.true (sym c.in_order.ensures ∙ c.if-not-in_order.true)
 
 loop_again : tie.Need-loop-i-preserved invariant_loop decreases_loop
 loop_again c =
-    let l = c in
-    passed_turn l.loop-i.invariant l.loop-i-test.true (sym c.in_order.ensures ∙ c.if-not-in_order.false)
+    passed_turn c.loop-i.invariant c.loop-i-test.true (sym c.in_order.ensures ∙ c.if-not-in_order.false)
 
 returns_2 : tie.Need-returns invariant_loop decreases_loop
 returns_2 c = passed_end c.loop-i.invariant c.loop-i-test.false
@@ -38,21 +36,21 @@ lowest_bad_spec =
     (tie.spec
     invariant_loop
     decreases_loop
-    (λ c. search (rules, passed_begin))  -- loop-holds
-    (λ c. let h = passed_read c.loop-i.invariant c.loop-i-test.true in search rules)  -- mul-from
-    (λ c. let h = passed_read c.loop-i.invariant c.loop-i-test.true in search rules)  -- shared-slice-read-from
+    (λ c. search (rules, passed_begin))  -- loop-i-init
+    (λ c. let h = passed_read c.loop-i.invariant c.loop-i-test.true in search rules)  -- offset_bounds-starts-i
+    (λ c. let h = passed_read c.loop-i.invariant c.loop-i-test.true in search rules)  -- bounds-starts-i
     cast_from
-    (λ c. search rules)  -- add-to
-    (λ c. let h = passed_read c.loop-i.invariant c.loop-i-test.true in search rules)  -- mul-to
-    (λ c. (passed_read c.loop-i.invariant c.loop-i-test.true).0)  -- shared-slice-read-to
+    (λ c. search rules)  -- overflow_add-to
+    (λ c. let h = passed_read c.loop-i.invariant c.loop-i-test.true in search rules)  -- offset_bounds-starts-i-in-loop-i
+    (λ c. (passed_read c.loop-i.invariant c.loop-i-test.true).0)  -- bounds-starts-i-in-loop-i
     cast_to
-    (λ c. let h = passed_read c.loop-i.invariant c.loop-i-test.true in search rules)  -- mul-in-order
-    (λ c. let h = passed_read c.loop-i.invariant c.loop-i-test.true in search rules)  -- sub-in-order
-    (λ c. let h = passed_read c.loop-i.invariant c.loop-i-test.true in search rules)  -- part-in-order-start
-    (λ c. let h = passed_read c.loop-i.invariant c.loop-i-test.true in search rules)  -- part-in-order-end
-    (λ c κs. search rules)  -- in-order-requires
+    (λ c. let h = passed_read c.loop-i.invariant c.loop-i-test.true in search rules)  -- offset_bounds-vars-from
+    (λ c. let h = passed_read c.loop-i.invariant c.loop-i-test.true in search rules)  -- slice_bounds-in_order-count
+    (λ c. let h = passed_read c.loop-i.invariant c.loop-i-test.true in search rules)  -- slice_bounds-in_order-start
+    (λ c. let h = passed_read c.loop-i.invariant c.loop-i-test.true in search rules)  -- slice_bounds-in_order-end
+    (λ c κs. search rules)  -- in_order-requires
     returns
-    (λ c. search rules)  -- add-i
-    (λ c. search rules)  -- loop-less
+    (λ c. search rules)  -- overflow_add-i
+    (λ c. search rules)  -- loop-i-smaller
     loop_again
     returns_2)

@@ -35,11 +35,11 @@ climb_spec =
     invariant_loop
     decreases_loop
     loop_holds
-    (λ c. search rules)  -- mul-start
-    (λ c. search rules)  -- shared-slice-read-start
+    (λ c. search rules)  -- offset_bounds-starts-i
+    (λ c. search rules)  -- bounds-starts-i
     cast_start
     returns
-    (λ c. search rules)  -- add-i
-    (λ c. search rules)  -- loop-less
+    (λ c. search rules)  -- overflow_add-i
+    (λ c. search rules)  -- loop-i-smaller
     loop_again
     returns_2)

@@ -16,16 +16,15 @@ returns_2 c = simp (eq-eqb _ _ c.if-starts-m.false, ne_eqb _ _ c.if-starts-ne0.t
 returns_3 : tie.Need-returns
 unfolding starts_kept
 returns_3 c =
-    let d = c in
-    simp (c.climb.ensures, eq-eqb _ _ d.if-starts-m.false, eq-eqb _ _ d.if-starts-ne0.false)
+    simp (c.climb.ensures, eq-eqb _ _ c.if-starts-m.false, eq-eqb _ _ c.if-starts-ne0.false)
 
 pub starts_kept_spec : {M : Type 1} → statement M
 starts_kept_spec =
     tie.close
     (tie.spec
-    (λ c. search rules)  -- add-if1
+    (λ c. search rules)  -- overflow_add-m
     returns
-    (λ c. search rules)  -- shared-slice-read-if2
+    (λ c. search rules)  -- bounds-starts-0
     returns_2
     (λ c κs. search rules)  -- climb-requires
     returns_3)

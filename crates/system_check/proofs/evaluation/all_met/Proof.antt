@@ -24,13 +24,11 @@ eval_vars_requires c κs = meeting_low c.loop-i.invariant c.loop-i-test.true
 
 returns : tie.Need-returns-then-eval_vars-constants invariant_loop decreases_loop
 returns c =
-    let l = c in
-    meeting_stop l.loop-i.invariant l.loop-i-test.true (λ e. c.if-eval_vars-constants.true (c.eval_vars.ensures ∙ e))
+    meeting_stop c.loop-i.invariant c.loop-i-test.true (λ e. c.if-eval_vars-constants.true (c.eval_vars.ensures ∙ e))
 
 loop_again : tie.Need-loop-i-preserved invariant_loop decreases_loop
 loop_again c =
-    let l = c in
-    meeting_turn l.loop-i.invariant l.loop-i-test.true (sym c.eval_vars.ensures ∙ c.if-eval_vars-constants.false)
+    meeting_turn c.loop-i.invariant c.loop-i-test.true (sym c.eval_vars.ensures ∙ c.if-eval_vars-constants.false)
 
 pub all_met_spec : {M : Type 1} → statement M
 all_met_spec =
@@ -38,23 +36,23 @@ all_met_spec =
     (tie.spec
     invariant_loop
     decreases_loop
-    (λ c. search (rules, meeting_begin))  -- loop-holds
-    (λ c. let h = meeting_read c.loop-i.invariant c.loop-i-test.true in search rules)  -- mul-from
-    (λ c. let h = meeting_read c.loop-i.invariant c.loop-i-test.true in search rules)  -- shared-slice-read-from
+    (λ c. search (rules, meeting_begin))  -- loop-i-init
+    (λ c. let h = meeting_read c.loop-i.invariant c.loop-i-test.true in search rules)  -- offset_bounds-starts-i
+    (λ c. let h = meeting_read c.loop-i.invariant c.loop-i-test.true in search rules)  -- bounds-starts-i
     cast_from
-    (λ c. search rules)  -- add-to
-    (λ c. let h = meeting_read c.loop-i.invariant c.loop-i-test.true in search rules)  -- mul-to
-    (λ c. (meeting_read c.loop-i.invariant c.loop-i-test.true).0)  -- shared-slice-read-to
+    (λ c. search rules)  -- overflow_add-to
+    (λ c. let h = meeting_read c.loop-i.invariant c.loop-i-test.true in search rules)  -- offset_bounds-starts-i-in-loop-i
+    (λ c. (meeting_read c.loop-i.invariant c.loop-i-test.true).0)  -- bounds-starts-i-in-loop-i
     cast_to
-    (λ c. let h = meeting_read c.loop-i.invariant c.loop-i-test.true in search rules)  -- mul-eval-vars
-    (λ c. let h = meeting_read c.loop-i.invariant c.loop-i-test.true in search rules)  -- sub-eval-vars
-    (λ c. let h = meeting_read c.loop-i.invariant c.loop-i-test.true in search rules)  -- part-eval-vars-start
-    (λ c. let h = meeting_read c.loop-i.invariant c.loop-i-test.true in search rules)  -- part-eval-vars-end
+    (λ c. let h = meeting_read c.loop-i.invariant c.loop-i-test.true in search rules)  -- offset_bounds-vars-from
+    (λ c. let h = meeting_read c.loop-i.invariant c.loop-i-test.true in search rules)  -- slice_bounds-eval_vars-count
+    (λ c. let h = meeting_read c.loop-i.invariant c.loop-i-test.true in search rules)  -- slice_bounds-eval_vars-start
+    (λ c. let h = meeting_read c.loop-i.invariant c.loop-i-test.true in search rules)  -- slice_bounds-eval_vars-end
     eval_vars_requires
-    (λ c. let h = meeting_read c.loop-i.invariant c.loop-i-test.true in search rules)  -- mul-if1
-    (λ c. (meeting_read c.loop-i.invariant c.loop-i-test.true).3)  -- shared-slice-read-if1
+    (λ c. let h = meeting_read c.loop-i.invariant c.loop-i-test.true in search rules)  -- offset_bounds-constants-i
+    (λ c. (meeting_read c.loop-i.invariant c.loop-i-test.true).3)  -- bounds-constants-i
     returns
-    (λ c. search rules)  -- add-i
-    (λ c. search rules)  -- loop-less
+    (λ c. search rules)  -- overflow_add-i
+    (λ c. search rules)  -- loop-i-smaller
     loop_again
     (λ c. search (rules, meeting_end)))

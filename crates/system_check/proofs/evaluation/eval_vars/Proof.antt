@@ -38,12 +38,12 @@ eval_vars_spec =
     invariant_loop
     decreases_loop
     loop_holds
-    (λ c. search rules)  -- mul-v
-    (λ c. search rules)  -- shared-slice-read-v
+    (λ c. search rules)  -- offset_bounds-vars-i
+    (λ c. search rules)  -- bounds-vars-i
     cast_v
     mul_sum
     shared_slice_read_sum
-    (λ c. search rules)  -- add-i
-    (λ c. search rules)  -- loop-less
+    (λ c. search rules)  -- overflow_add-i
+    (λ c. search rules)  -- loop-i-smaller
     loop_again
     returns)

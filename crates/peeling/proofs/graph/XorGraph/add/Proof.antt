@@ -23,14 +23,14 @@ pub add_spec : {M : Type 1} → statement M
 add_spec =
     tie.close
     (tie.spec
-    (λ c. search rules)  -- cast-i
+    (λ c. search rules)  -- overflow_cast-i
     (λ c κs. search rules)  -- refused-requires
     returns
-    (λ c κs. search rules)  -- refused-requires-2
+    (λ c κs. search rules)  -- refused-requires-then-degrees-i
     returns_2
-    (λ c κs. search rules)  -- refused-requires-3
+    (λ c κs. search rules)  -- refused-requires-then-side-ge3
     returns_3
-    (λ c κs. search rules)  -- add-at-requires
-    (λ c. search rules)  -- same-length
-    (λ c. search rules)  -- same-length-2
+    (λ c κs. search rules)  -- add_at-over-requires
+    (λ c. search rules)  -- shape_of-edges
+    (λ c. search rules)  -- shape_of-degrees
     returns_4)
