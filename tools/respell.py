@@ -34,17 +34,21 @@ def code(line):
 def declared():
     found = collections.defaultdict(set)
     for path in ANTT:
+        in_record = False
         for line in open(path, encoding="utf-8"):
+            in_record = in_record and line[:1] == " "
             m = DECL.match(code(line) + " ")
             if not m:
                 continue
             words, name = m.group(2).split(), m.group(3)
+            in_record = in_record or "record" in words and not m.group(1)
             if name in KEYWORDS or not re.match(r"^[^\W\d_]", name):
                 continue
             if m.group(5) == ":" or "data" in words or "record" in words or "ruleset" in words:
                 found[name].add("definition" if {"abbrev", "unfoldable", "data", "record"} & set(words) and not m.group(1) else "lemma")
                 if m.group(1):
                     found[name].add("field")
+                found[name].add("of a record" if in_record and "record" not in words else "by itself")
     return found
 
 
@@ -63,15 +67,15 @@ def spelling(found):
             names.add(piece(name))
     defined = {piece(n) for n, kinds in found.items() if "definition" in kinds}
     out = {}
-    for name in found:
+    for name, kinds in found.items():
         pieces = [piece(p) for p in name.split("-") if p]
         new = pieces[0]
         for i in range(1, len(pieces)):
             left = "_".join(pieces[:i]) in names or pieces[i - 1] in names or pieces[i - 1][:1].isupper()
             right = "_".join(pieces[i:]) in names or pieces[i] in names or pieces[i][:1].isupper()
             new += ("-" if left and right and pieces[-1] != "spec" else "_") + pieces[i]
-        # a lemma that would have its function's name
-        if "-" in name and new in defined:
+        # a lemma that would have its function's name; a record's field may have it
+        if "-" in name and new in defined and "by itself" in kinds:
             new += "_lem"
         new = APART.get(name, new)
         if new != name:
@@ -83,8 +87,8 @@ def spelling(found):
 STEP = re.compile(r"[.·][^\s(){}\[\],;.:\"`⟨⟩⟦⟧⌜⌝]+")
 
 
-def together(names):
-    """The places where two names of a file would become one; a Rust item may be called as the definition that it is held to."""
+def together(names, fields):
+    """The places where two names of a file would become one; a Rust item, and a record's field, may be called as a definition is."""
     said = []
     for path in ANTT + RUST:
         seen = collections.defaultdict(set)
@@ -92,7 +96,7 @@ def together(names):
             for m in TOKEN.finditer(STEP.sub(" ", code(line)) if path.endswith(".antt") else code(line)):
                 seen[names.get(m.group(0), m.group(0))].add(m.group(0))
         for new, olds in seen.items():
-            if len(olds) > 1:
+            if len(olds - fields) > 1:
                 said.append((new, sorted(olds), path))
     return said
 
@@ -126,7 +130,7 @@ def main():
     found = declared()
     names = spelling(found)
     fields = {n for n, kinds in found.items() if "field" in kinds}
-    said = together(names)
+    said = together(names, {n for n, kinds in found.items() if "of a record" in kinds and "by itself" not in kinds})
     for new, olds, path in said:
         print("together:", new, olds, path)
     if "--list" in sys.argv:

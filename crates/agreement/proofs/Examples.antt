@@ -136,20 +136,20 @@ p5_before = record { at = 2; smaller = omega arith; equal_above = past }
 pub sparse_runs : SparseRuns 3 p5 × SparseRuns 3 p3_twice
 unfolding system_rules sizes_fit shape_kept starts_kept climbs rises_below lowest_bad equations_from equation_at stretch
 sparse_runs = (
-  record { kept = refl; sized = refl; numbers_room_lem = leb-true _ _ refl; words_room_lem = leb-true _ _ refl },
-  record { kept = refl; sized = refl; numbers_room_lem = leb-true _ _ refl; words_room_lem = leb-true _ _ refl },
+  record { kept = refl; sized = refl; numbers_room = leb-true _ _ refl; words_room = leb-true _ _ refl },
+  record { kept = refl; sized = refl; numbers_room = leb-true _ _ refl; words_room = leb-true _ _ refl },
 )
 
 pub dense_runs : DenseRuns 3 p3_rows_turned
 unfolding dense_rules row_rules row_at rows_from stretch bit_at empty_from
-dense_runs = record { kept = refl; sized = refl; numbers_room_lem = leb-true _ _ refl; words_room_lem = leb-true _ _ refl }
+dense_runs = record { kept = refl; sized = refl; numbers_room = leb-true _ _ refl; words_room = leb-true _ _ refl }
 
 pub lazy_runs : LazyRuns 3 p5 × LazyRuns 3 p3 × LazyRuns 3 p3_twice
 unfolding system_rules sizes_fit shape_kept starts_kept climbs rises_below lowest_bad equations_from equation_at stretch
 lazy_runs = (
-  record { kept = refl; sized = refl; numbers_room_lem = leb-true _ _ refl; words_room_lem = leb-true _ _ refl },
-  record { kept = refl; sized = refl; numbers_room_lem = leb-true _ _ refl; words_room_lem = leb-true _ _ refl },
-  record { kept = refl; sized = refl; numbers_room_lem = leb-true _ _ refl; words_room_lem = leb-true _ _ refl },
+  record { kept = refl; sized = refl; numbers_room = leb-true _ _ refl; words_room = leb-true _ _ refl },
+  record { kept = refl; sized = refl; numbers_room = leb-true _ _ refl; words_room = leb-true _ _ refl },
+  record { kept = refl; sized = refl; numbers_room = leb-true _ _ refl; words_room = leb-true _ _ refl },
 )
 
 pub p5_solvable : Solvable 3 (system p5)

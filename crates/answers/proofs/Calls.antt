@@ -31,8 +31,8 @@ early_from (Broken answer) f = f answer refl
 pub record Admitted (n kn kw : ℕ) (solution numbers words : List ℕ) (rules : Rules) : Type 0 where
   pub kept : rules ≡ Kept
   pub sized : length solution ≡ n
-  pub numbers_room_lem : kn ≤ length numbers
-  pub words_room_lem : kw ≤ length words
+  pub numbers_room : kn ≤ length numbers
+  pub words_room : kw ≤ length words
 
 -- a run ends with 0 or 6
 pub ran_two : (kn kw : ℕ) (run : Result (List ℕ)) (solution numbers words : List ℕ)
@@ -43,7 +43,7 @@ ran_two kn kw (ok x) solution numbers words = inl refl
 module _ (n kn kw : ℕ) (run : Result (List ℕ)) (solution numbers words : List ℕ) where
   pub call_ran : (rules : Rules) → Admitted n kn kw solution numbers words rules → solver_call rules n kn kw run solution numbers words ≡ ran kn kw run solution numbers words
   call_ran rules a =
-      simp (a.kept, eq-eqb (length solution) n a.sized, le-leb kn (length numbers) a.numbers_room_lem, le-leb kw (length words) a.words_room_lem)
+      simp (a.kept, eq-eqb (length solution) n a.sized, le-leb kn (length numbers) a.numbers_room, le-leb kw (length words) a.words_room)
 
   -- a call that comes to its run answers 0 or 6
   pub call_two : (rules : Rules) → Admitted n kn kw solution numbers words rules
@@ -64,7 +64,7 @@ module _ (n kn kw : ℕ) (run : Result (List ℕ)) (solution numbers words : Lis
       go : (a b : Bool) → eqb (length solution) n ≡ a → (leb kn (length numbers) && leb kw (length words)) ≡ b → Way Kept (pick a (pick b (ran kn kw run solution numbers words) (refused ShortArea solution numbers words)) (refused WrongSolution solution numbers words))
       go true true p q =
           let r = both (leb kn (length numbers)) (leb kw (length words)) q in
-          runs (record { kept = refl; sized = eqb-true (length solution) n p; numbers_room_lem = leb-true kn (length numbers) r.0; words_room_lem = leb-true kw (length words) r.1 })
+          runs (record { kept = refl; sized = eqb-true (length solution) n p; numbers_room = leb-true kn (length numbers) r.0; words_room = leb-true kw (length words) r.1 })
       go true false p q = short (eqb-true (length solution) n p) q
       go false b p q = wrong (λ e. false≢true (sym p ∙ eq-eqb (length solution) n e))
 

@@ -51,8 +51,8 @@ pub record Walking (n m w : ℕ) (numbers₀ words₀ : List ℕ) (rank col : �
   pub wide_enough : n ≤ 64 * w
   pub below : col ≤ n
   pub ranked : rank ≤ m
-  pub numbers_room_lem : m ≤ length numbers
-  pub words_room_lem : m * w + m ≤ length words
+  pub numbers_room : m ≤ length numbers
+  pub words_room : m * w + m ≤ length words
   pub numbers_long : length numbers ≡ length numbers₀
   pub numbers_past : drop rank numbers ≡ drop rank numbers₀
   pub words_long : length words ≡ length words₀
@@ -68,8 +68,8 @@ walking_begin {n} {m} {w} {numbers} {words} hn hw hm h =
       wide_enough = hw;
       below = omega arith;
       ranked = omega arith;
-      numbers_room_lem = hm;
-      words_room_lem = h;
+      numbers_room = hm;
+      words_room = h;
       numbers_long = refl;
       numbers_past = refl;
       words_long = refl;
@@ -112,8 +112,8 @@ module _ {n m w : ℕ} {numbers₀ words₀ : List ℕ} {rank col : ℕ} {number
         wide_enough = s.wide_enough;
         below = omega arith;
         ranked = r;
-        numbers_room_lem = s.numbers_room_lem;
-        words_room_lem = s.words_room_lem;
+        numbers_room = s.numbers_room;
+        words_room = s.words_room;
         numbers_long = s.numbers_long;
         numbers_past = s.numbers_past;
         words_long = s.words_long;
@@ -133,8 +133,8 @@ module _ {n m w : ℕ} {numbers₀ words₀ : List ℕ} {rank col : ℕ} {number
   walking_turn {pivot} {area} h ne e b =
       let r = s.ranked in
       let l = count in
-      let g = s.words_room_lem in
-      let f = s.numbers_room_lem in
+      let g = s.words_room in
+      let f = s.numbers_room in
       let t = pivot_taken col rank pivot rows (omega arith) (sym e) in
       let p : Row = t.pivot in
       let R : List Row = clear_below col rank (swap_rows (col / 64) rank pivot rows) in
@@ -148,8 +148,8 @@ module _ {n m w : ℕ} {numbers₀ words₀ : List ℕ} {rank col : ℕ} {number
         wide_enough = s.wide_enough;
         below = omega arith;
         ranked = omega arith;
-        numbers_room_lem = simp length-set s.numbers_room_lem;
-        words_room_lem = rw b.long s.words_room_lem;
+        numbers_room = simp length-set s.numbers_room;
+        words_room = rw b.long s.words_room;
         numbers_long = length-set numbers rank col ∙ s.numbers_long;
         numbers_past = drop-set-lt (rank + 1) numbers rank col (omega arith) ∙ drop_agree rank (rank + 1) numbers numbers₀ (omega arith) s.numbers_past;
         words_long = b.long ∙ s.words_long;

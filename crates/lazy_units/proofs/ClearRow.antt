@@ -126,7 +126,7 @@ module _ {n m : ℕ} {layout : Layout} {sys : List Equation} {s : State} {stand 
         let h = refused_held came e in
         let p = places st.shows.laid in
         let l = length-drop layout.dense numbers' in
-        let r = h.numbers_room_lem in
+        let r = h.numbers_room in
         let f = clear_fits in
         rw (row_refused s (refused_is came e)) (record {
           place = p.lengths;

@@ -95,8 +95,8 @@ dense_drawn n m dense e h =
       words_are = words_are_constants m dense ∙ sym (append-nil (map constant_of (filled m dense)));
       rising = each_append (λ r. Rising 0 n r.vars) dense (replicate (m - length dense) blank) e (each_blank n (m - length dense));
       count = length_filled m dense h;
-      numbers_room_lem = omega arith;
-      words_room_lem = rw (length-padded m (map (λ r. r.c) dense) (omega arith)) (omega arith);
+      numbers_room = omega arith;
+      words_room = rw (length-padded m (map (λ r. r.c) dense) (omega arith)) (omega arith);
     }
 
 pub in_use : (m : ℕ) (dense : List Equation) → take (length dense) (filled m dense) ≡ dense

@@ -55,8 +55,8 @@ module _ (high : Bool) (n : ℕ) (T : List Edge) (cells numbers bytes : List ℕ
               lent = record {
                 n_small = leb-true n max_variables z.0;
                 m_small = leb-true (length T) max_equations z.1;
-                numbers_room_lem = leb-true (numbers_room high n (length T)) (length numbers) y.0;
-                bytes_room_lem = leb-true (bytes_room high n (length T)) (length bytes) y.1;
+                numbers_room = leb-true (numbers_room high n (length T)) (length numbers) y.0;
+                bytes_room = leb-true (bytes_room high n (length T)) (length bytes) y.1;
               };
               all = refl;
               valid = all_valid n T (ltb-false (bad_edge n T) (length T) hq);

@@ -15,8 +15,8 @@ bytes_room false n m = peel_low_bytes n
 pub record Lent (high : Bool) (n m : ℕ) (numbers bytes : List ℕ) : Type 0 where
   pub n_small : n ≤ max_variables
   pub m_small : m ≤ max_equations
-  pub numbers_room_lem : numbers_room high n m ≤ length numbers
-  pub bytes_room_lem : bytes_room high n m ≤ length bytes
+  pub numbers_room : numbers_room high n m ≤ length numbers
+  pub bytes_room : bytes_room high n m ≤ length bytes
 
 -- the room is zero, the remainder untouched
 pub record Left (high : Bool) (n m : ℕ) (numbers bytes numbers' bytes' : List ℕ) : Type 0 where

@@ -125,13 +125,13 @@ room_least true n m = (omega arith, omega arith)
 room_least false n m = (omega arith, omega arith)
 
 pub lent_on : {high : Bool} {n m : ℕ} {numbers bytes d b : List ℕ} → Lent high n m numbers bytes → length d ≡ length numbers → length b ≡ length bytes → Lent high n m d b
-lent_on a p q = record { n_small = a.n_small; m_small = a.m_small; numbers_room_lem = omega (arith, p, a.numbers_room_lem); bytes_room_lem = omega (arith, q, a.bytes_room_lem) }
+lent_on a p q = record { n_small = a.n_small; m_small = a.m_small; numbers_room = omega (arith, p, a.numbers_room); bytes_room = omega (arith, q, a.bytes_room) }
 
 -- ---- the peeling
 
 module _ {high : Bool} {n : ℕ} {T : List Edge} {numbers bytes : List ℕ} (a : PeelAsks high n T numbers bytes) where
   pub preload_asks : Holds n numbers bytes
-  preload_asks = record { room = omega (arith, (room_least high n (length T)).0, a.lent.numbers_room_lem); room_b = omega (arith, (room_least high n (length T)).1, a.lent.bytes_room_lem); small = a.lent.n_small }
+  preload_asks = record { room = omega (arith, (room_least high n (length T)).0, a.lent.numbers_room); room_b = omega (arith, (room_least high n (length T)).1, a.lent.bytes_room); small = a.lent.n_small }
 
   module _ {first : Heads} {d : List ℕ} (p : Preloaded n numbers bytes d first.stack × (first.peeled ≡ 0) × (first.next ≡ next_of n first.stack d bytes)) where
     pub starts : PeelStarts high n T d bytes first

@@ -48,8 +48,8 @@ pub record PeelRuns (r : PeelRoom) (n : ℕ) (l : LentToPeel) : Type 0 where
   pub few_edges : length l.es ≤ max_equations
   pub no_bad : length l.es ≤ bad_edge n l.es
   pub size : length l.solution ≡ n
-  pub numbers_room_lem : r.numbers ≤ length l.numbers
-  pub bytes_room_lem : r.bytes ≤ length l.bytes
+  pub numbers_room : r.numbers ≤ length l.numbers
+  pub bytes_room : r.bytes ≤ length l.bytes
   pub no_crowd : n ≤ crowded_vertex n l.es
 
 -- ---- after 0
@@ -99,8 +99,8 @@ ran_stuck r n k l runs h =
       le-leb (length l.es) max_equations runs.few_edges,
       le-ltb (bad_edge n l.es) (length l.es) runs.no_bad,
       eq-eqb (length l.solution) n runs.size,
-      le-leb r.numbers (length l.numbers) runs.numbers_room_lem,
-      le-leb r.bytes (length l.bytes) runs.bytes_room_lem,
+      le-leb r.numbers (length l.numbers) runs.numbers_room,
+      le-leb r.bytes (length l.bytes) runs.bytes_room,
       le-ltb (crowded_vertex n l.es) n runs.no_crowd,
       h,
     )

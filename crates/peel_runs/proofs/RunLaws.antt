@@ -66,8 +66,8 @@ module _ {high : Bool} {n m : ℕ} {T : List Edge} {cells numbers bytes : List �
   begins = record {
     valid = a.valid;
     small = omega (arith, a.all, a.lent.m_small);
-    room = omega (arith, (room_least high n m).0, a.lent.numbers_room_lem);
-    room_b = omega (arith, (room_least high n m).1, a.lent.bytes_room_lem);
+    room = omega (arith, (room_least high n m).0, a.lent.numbers_room);
+    room_b = omega (arith, (room_least high n m).1, a.lent.bytes_room);
   }
 
   module _ {d b : List ℕ} {low : ℕ} (g : GraphBuilt n T numbers bytes d b low) where

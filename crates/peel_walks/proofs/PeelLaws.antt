@@ -393,8 +393,8 @@ module _ {high : Bool} {n : ℕ} {T : List Edge} {numbers₀ bytes₀ : List ℕ
 
     pub holds : Holds n numbers bytes
     holds = record {
-      room = omega (arith, (rooms high n (length T)).0, s.lent.numbers_room_lem, l.long);
-      room_b = omega (arith, (rooms high n (length T)).1, s.lent.bytes_room_lem, l.long_b);
+      room = omega (arith, (rooms high n (length T)).0, s.lent.numbers_room, l.long);
+      room_b = omega (arith, (rooms high n (length T)).1, s.lent.bytes_room, l.long_b);
       small = s.lent.n_small;
     }
 
@@ -499,7 +499,7 @@ module _ {high : Bool} {n : ℕ} {T : List Edge} {numbers₀ bytes₀ : List ℕ
         after_K = ap (λ (f : Graph). stack_after f v (stack_in n top K) i (side_from t) d) graph_K ∙ ap (λ (u : List ℕ). stack_after g v u i (side_from t) d) stack_K
 
         keeps : Keeps high n h.peeled numbers bytes
-        keeps = keeps_room high n (length T) h.peeled numbers bytes (omega (arith, s.lent.numbers_room_lem, l.long)) (omega (arith, s.lent.bytes_room_lem, l.long_b)) few few_n
+        keeps = keeps_room high n (length T) h.peeled numbers bytes (omega (arith, s.lent.numbers_room, l.long)) (omega (arith, s.lent.bytes_room, l.long_b)) few few_n
 
         pub busy_asks : Busy high n h.stack h.peeled d numbers bytes v i t
         busy_asks = record {
@@ -631,7 +631,7 @@ module _ {high : Bool} {n : ℕ} {T : List Edge} {numbers₀ bytes₀ : List ℕ
       fillable = record {
         small = s.lent.n_small;
         few = omega (arith, few, s.lent.m_small);
-        reads = logged_reads high T n (length T) h.peeled numbers bytes R.peeled valids l.logged (omega (arith, s.lent.numbers_room_lem, l.long)) (omega (arith, s.lent.bytes_room_lem, l.long_b)) few (omega (arith, fits));
+        reads = logged_reads high T n (length T) h.peeled numbers bytes R.peeled valids l.logged (omega (arith, s.lent.numbers_room, l.long)) (omega (arith, s.lent.bytes_room, l.long_b)) few (omega (arith, fits));
         numbered = λ k q. in_table T (number_at high n k numbers) (nth k q);
         valid = nth;
       };

@@ -30,7 +30,7 @@ module _ {n m : ℕ} {rows : List Equation} {rest rest' numbers words : List ℕ
       record {
         left_before = row_before i m n i_in;
         right_before = row_before j m n l;
-        inside = omega (arith, d.numbers_room_lem);
+        inside = omega (arith, d.numbers_room);
         left_short = omega (arith, row_length d i i_in, row_narrow d i i_in);
         right_short = omega (arith, row_length d j l, row_narrow d j l);
         left_rises = subst (Rising 0 n) (sym (row_read i i_in)) (row_rising d i i_in);

@@ -56,8 +56,8 @@ draw n m rows rest rest' numbers words a w r c =
       words_are = w;
       rising = r;
       count = c;
-      numbers_room_lem = rw (a, length_parts n m (map vars_of rows) (map length_of rows) rest (rows_narrow n rows r) (length-map rows vars_of ∙ c) (length-map rows length_of ∙ c)) (omega arith);
-      words_room_lem = rw (w, length-append, length-map) (omega arith);
+      numbers_room = rw (a, length_parts n m (map vars_of rows) (map length_of rows) rest (rows_narrow n rows r) (length-map rows vars_of ∙ c) (length-map rows length_of ∙ c)) (omega arith);
+      words_room = rw (w, length-append, length-map) (omega arith);
     }
 
 module _ {n m : ℕ} {rows : List Equation} {rest rest' numbers words : List ℕ} (d : Drawn n m rows rest rest' numbers words) where

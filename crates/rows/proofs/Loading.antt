@@ -51,7 +51,7 @@ module _ {n m : ℕ} {rows : List Equation} {rest rest' numbers words : List ℕ
   store_short = rising_narrow n vars rising
 
   pub store_fits : i * n + length vars ≤ length numbers
-  store_fits = omega (arith, store_short, row_before i m n h, d.numbers_room_lem)
+  store_fits = omega (arith, store_short, row_before i m n h, d.numbers_room)
 
   pub store_done : (c : ℕ) (numbers' : List ℕ) → length (row_at rows i).vars ≡ 0 → numbers' ≡ put (i * n) vars numbers
       → Drawn n m (set rows i (eqn vars c)) rest rest' (set numbers' (m * n + n + i) (length vars)) (set words i c)

@@ -23,7 +23,7 @@ module _ {n m : ℕ} {rows : List Equation} {rest rest' numbers words : List ℕ
   swap_length = simp length-set
 
   pub swap_fits : (k ≤ n) × (i * n + n ≤ j * n) × (j * n + n ≤ length (set (set numbers (m * n + n + i) (get_or numbers (m * n + n + j) 0)) (m * n + n + j) (get_or numbers (m * n + n + i) 0)))
-  swap_fits = (narrow, row_before i j n h, rw swap_length (omega (arith, row_before j m n l, d.numbers_room_lem)))
+  swap_fits = (narrow, row_before i j n h, rw swap_length (omega (arith, row_before j m n l, d.numbers_room)))
 
   pub swap_done : (numbers' : List ℕ) (r : ℕ)
       → Exchanged (set (set numbers (m * n + n + i) (get_or numbers (m * n + n + j) 0)) (m * n + n + j) (get_or numbers (m * n + n + i) 0)) (i * n) (j * n) k n numbers' r

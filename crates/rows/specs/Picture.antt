@@ -30,8 +30,8 @@ pub record Drawn (n m : ℕ) (rows : List Equation) (rest rest' numbers words : 
   pub words_are : words ≡ map constant_of rows ++ rest'
   pub rising : Each (λ e. Rising 0 n e.vars) rows
   pub count : length rows ≡ m
-  pub numbers_room_lem : m * n + n + m ≤ length numbers
-  pub words_room_lem : m ≤ length words
+  pub numbers_room : m * n + n + m ≤ length numbers
+  pub words_room : m ≤ length words
 
 -- ---- the rows that an area holds
 

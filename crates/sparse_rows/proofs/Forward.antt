@@ -57,7 +57,7 @@ module _ {n m : ℕ} {rows : List Equation} {rest rest' numbers words : List ℕ
 
     -- where the row begins, whether it is empty or not
     pub row_in : i * n < length numbers
-    row_in = omega (arith, row_before i m n h, d.numbers_room_lem)
+    row_in = omega (arith, row_before i m n h, d.numbers_room)
 
   module _ (i j : ℕ) (h : i < j) (l : j < m) where
     i_in : i < m

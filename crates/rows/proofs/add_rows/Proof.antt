@@ -20,9 +20,9 @@ add_rows_spec =
     (λ c. search rules)  -- offset_bounds-numbers-lens-2
     (λ c. search rules)  -- bounds-numbers-lens-2
     (λ c. let f = add_fits c.requires.0 _ _ c.requires.1 c.requires.2 in record { fits = omega (arith, f.left_short, f.right_short, c.requires.3) })  -- overflow_add-both
-    (λ c. let h = row_before c.args.i c.args.m c.args.n (omega (arith, c.requires.1, c.requires.2)) in record { fits = omega (arith, c.requires.0.numbers_room_lem) })  -- overflow_mul-i
+    (λ c. let h = row_before c.args.i c.args.m c.args.n (omega (arith, c.requires.1, c.requires.2)) in record { fits = omega (arith, c.requires.0.numbers_room) })  -- overflow_mul-i
     (λ c. omega (arith, c.slice_known-3-1.given (c.args.m * c.args.n + c.args.n + c.args.i)))  -- overflow_cast-li
-    (λ c. let h = row_before c.args.j c.args.m c.args.n c.requires.2 in record { fits = omega (arith, c.requires.0.numbers_room_lem) })  -- overflow_mul-j
+    (λ c. let h = row_before c.args.j c.args.m c.args.n c.requires.2 in record { fits = omega (arith, c.requires.0.numbers_room) })  -- overflow_mul-j
     (λ c. omega (arith, c.slice_known-4-1.given (c.args.m * c.args.n + c.args.n + c.args.j)))  -- overflow_cast-lj
     (λ c. search rules)  -- overflow_mul-m
     (λ c κs. add_fits c.requires.0 _ _ c.requires.1 c.requires.2)  -- add_into-k-requires

@@ -12,7 +12,7 @@ store_row_spec =
     (tie.spec
     (λ c. search rules)  -- overflow_mul-lens
     (λ c. search rules)  -- overflow_add-lens
-    (λ c. let h = row_before c.args.i c.args.m c.args.n c.requires.0.1 in record { fits = omega (arith, c.requires.0.0.numbers_room_lem) })  -- overflow_mul-i
+    (λ c. let h = row_before c.args.i c.args.m c.args.n c.requires.0.1 in record { fits = omega (arith, c.requires.0.0.numbers_room) })  -- overflow_mul-i
     (λ c κs. store_fits c.requires.0.0 c.args.i c.requires.0.1 c.args.vars.now c.requires.1.1)  -- copy_numbers-requires
     (λ c. let h = store_short c.requires.0.0 c.args.i c.requires.0.1 c.args.vars.now c.requires.1.1 in omega (arith, c.requires.0.2))  -- overflow_cast-numbers
     (λ c. search rules)  -- overflow_add-numbers

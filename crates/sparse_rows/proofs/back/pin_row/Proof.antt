@@ -24,10 +24,10 @@ pin_row_spec =
     (λ c. let h = first_in c.requires.0 _ c.requires.1 c.if-l-eq0.false in search rules)  -- offset_bounds-numbers-p
     (λ c. search rules)  -- slice_bounds-eval_vars-count
     (λ c. search rules)  -- slice_bounds-eval_vars-start
-    (λ c. let h = row_fits c.requires.0 _ c.requires.1 in omega (arith, c.requires.0.numbers_room_lem))  -- slice_bounds-eval_vars-end
+    (λ c. let h = row_fits c.requires.0 _ c.requires.1 in omega (arith, c.requires.0.numbers_room))  -- slice_bounds-eval_vars-end
     (λ c κs. pin_listed c.requires.0 _ c.requires.1 c.args.solution.now c.requires.2)  -- eval_vars-sum-requires
     (λ c. let h = first_in c.requires.0 _ c.requires.1 c.if-l-eq0.false in search rules)  -- offset_bounds-numbers-p-2
-    (λ c. let h = first_in c.requires.0 _ c.requires.1 c.if-l-eq0.false in omega (arith, c.requires.0.numbers_room_lem))  -- bounds-numbers-p
+    (λ c. let h = first_in c.requires.0 _ c.requires.1 c.if-l-eq0.false in omega (arith, c.requires.0.numbers_room))  -- bounds-numbers-p
     (λ c. omega (arith, c.shared_slice_known-4-1.given (c.args.i * c.args.n)))  -- overflow_cast-v
     (λ c. search rules)  -- offset_bounds-words-i
     (λ c. search rules)  -- bounds-words-i

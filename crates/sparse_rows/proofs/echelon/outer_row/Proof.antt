@@ -38,7 +38,7 @@ outer_row_spec =
     (λ c. search rules)  -- overflow_add-i
     (λ c κs. (c.requires.0, omega arith, omega (arith, c.requires.1), c.requires.2, c.if-numbers-m-eq0.false))  -- pass_rows-j-requires
     (λ c. let p = c.pass_rows-j.ensures.0 in (passes_none p.stands p.alike, refl, refl, fallen_begin))  -- loop-j-init
-    (λ c κs. let p = c.loop-j.invariant.0 in (held p.stands.drawn, p.stands.i_below, omega (arith, c.loop-j-test.true, c.requires.2), c.requires.3, p.alike c.loop-j-test.true, (let k = round_room c.requires.0 c.requires.1 c.requires.2 c.if-numbers-m-eq0.false in let f = fallen_most c.loop-j.invariant.3 c.pass_rows-j.ensures.1 k in omega (arith, c.requires.0.numbers_room_lem))))  -- meet_rows-e-requires
+    (λ c κs. let p = c.loop-j.invariant.0 in (held p.stands.drawn, p.stands.i_below, omega (arith, c.loop-j-test.true, c.requires.2), c.requires.3, p.alike c.loop-j-test.true, (let k = round_room c.requires.0 c.requires.1 c.requires.2 c.if-numbers-m-eq0.false in let f = fallen_most c.loop-j.invariant.3 c.pass_rows-j.ensures.1 k in omega (arith, c.requires.0.numbers_room))))  -- meet_rows-e-requires
     (λ c. search rules)  -- enum_told-1
     (λ c. search rules)  -- shape_of-numbers-in-Clash
     (λ c. search rules)  -- shape_of-words-in-Clash
