@@ -36,7 +36,7 @@ pub record Strips (m : ℕ) (table : List Edge) (before after : List ℕ) (gone 
   pub kept : (bs : List Bool) → Tight (pick bs (take m table)) → Within bs (living (take m before)) → Within bs (living (take m after))
   pub ended : gone ≡ 0 → Tight (alive_of m after table)
 
--- there is a core, and so many edges lie outside it; by core-unique there is one such number
+-- there is a core, and so many edges lie outside it; by core_unique there is one such number
 pub record OutsideCore (es : List Edge) (outside : ℕ) : Type 0 where
   pub core : List Bool
   pub is_core : Core es core

@@ -50,7 +50,7 @@ ones (suc v) es = cond (eqb (degree v es) 1) (v ∷ ones v es) (ones v es)
 unfoldable pub start : ℕ → List Edge → State
 start n es = record { left = es; stack = ones n es; peeled = [] }
 
--- n pops are enough (peel-empties): each pop lowers stack length plus vertices of degree 2 or more
+-- n pops are enough (peel_empties): each pop lowers stack length plus vertices of degree 2 or more
 unfoldable pub peel : ℕ → List Edge → State
 peel n es = run n (start n es)
 
