@@ -13,10 +13,10 @@ use Rattle.gf2.specs.Result.{Result, unsolvable, ok}
 use Rattle.areas.specs.Stretch.{cleared}
 use Rattle.answers.specs.Numbers.{number_of}
 use Rattle.answers.specs.Calls.{Call, pick, refused, ran, solver_call}
-use Rattle.answers.specs.declared.Answer.{Answer}
-use Rattle.answers.specs.declared.Answer.TheVariants.{Solved, WrongSolution, ShortArea, Unsolvable}
-use Rattle.answers.specs.declared.Rules.{Rules}
-use Rattle.answers.specs.declared.Rules.TheVariants.{Kept, Broken}
+use Rattle.answers.specs.Answers.{Answer}
+use Rattle.answers.specs.Answers.{Solved, WrongSolution, ShortArea, Unsolvable}
+use Rattle.answers.specs.Answers.{Rules}
+use Rattle.answers.specs.Answers.{Kept, Broken}
 
 -- what is refused before the solution and the areas has a number from 1 to 3
 abbrev pub Early : Rules → Type 0

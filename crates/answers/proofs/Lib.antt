@@ -2,5 +2,6 @@ pub mod Rooms
 pub mod Numbers
 pub mod Told
 pub mod Calls
+pub mod Gate
 pub mod Reported
 pub mod Determined

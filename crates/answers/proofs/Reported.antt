@@ -9,10 +9,10 @@ use Rattle.answers.specs.Numbers.{number_of, place_of}
 use Rattle.answers.specs.Calls.{Call, ran, solver_call}
 use Rattle.answers.specs.Reported.{reported}
 use Rattle.answers.specs.Told.{Tells}
-use Rattle.answers.specs.declared.Answer.{Answer}
-use Rattle.answers.specs.declared.Answer.TheVariants.{Solved, WrongSolution, ShortArea, Unsolvable}
-use Rattle.answers.specs.declared.Rules.{Rules}
-use Rattle.answers.specs.declared.Rules.TheVariants.{Kept}
+use Rattle.answers.specs.Answers.{Answer}
+use Rattle.answers.specs.Answers.{Solved, WrongSolution, ShortArea, Unsolvable}
+use Rattle.answers.specs.Answers.{Rules}
+use Rattle.answers.specs.Answers.{Kept}
 use Rattle.answers.proofs.Told.{Says, tells}
 use Rattle.answers.proofs.Calls.{Early, Way, broken, wrong, short, runs, way}
 

@@ -5,7 +5,7 @@ use Prim.Native.Nat.{ℕ}
 use Rattle.answers.specs.Numbers.{number_of, place_of}
 use Rattle.answers.specs.Calls.{Call}
 use Rattle.answers.specs.Told.{Tells}
-use Rattle.answers.specs.declared.Answer.{Answer}
+use Rattle.answers.specs.Answers.{Answer}
 use Rattle.answers.proofs.Numbers.{same_answer}
 
 -- the definition's own result

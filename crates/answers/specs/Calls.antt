@@ -2,10 +2,10 @@
 use Rattle.std.specs.Prelude.{List, Bool, true, false, ◌&&◌, ℕ, length, eqb, leb}
 use Rattle.areas.specs.Stretch.{cleared}
 use Rattle.gf2.specs.Result.{Result, unsolvable, ok}
-use Rattle.answers.specs.declared.Answer.{Answer}
-use Rattle.answers.specs.declared.Answer.TheVariants.{Solved, WrongSolution, ShortArea, Unsolvable}
-use Rattle.answers.specs.declared.Rules.{Rules}
-use Rattle.answers.specs.declared.Rules.TheVariants.{Kept, Broken}
+use Rattle.answers.specs.Answers.{Answer}
+use Rattle.answers.specs.Answers.{Solved, WrongSolution, ShortArea, Unsolvable}
+use Rattle.answers.specs.Answers.{Rules}
+use Rattle.answers.specs.Answers.{Kept, Broken}
 
 pub record Call : Type 0 where
   pub answer : Answer
@@ -26,6 +26,16 @@ abbrev pub ran : ℕ → ℕ → Result (List ℕ) → List ℕ → List ℕ →
 ran kn kw unsolvable solution numbers words =
     record { answer = Unsolvable; solution = solution; numbers = cleared kn numbers; words = cleared kw words }
 ran kn kw (ok x) solution numbers words = record { answer = Solved; solution = x; numbers = cleared kn numbers; words = cleared kw words }
+
+-- what was lent beside the system: the solution has n words, then each area its room
+abbrev pub lengths_rules : ℕ → ℕ → ℕ → List ℕ → List ℕ → List ℕ → Rules
+lengths_rules n kn kw solution numbers words =
+    pick (eqb (length solution) n) (pick (leb kn (length numbers) && leb kw (length words)) Kept (Broken ShortArea)) (Broken WrongSolution)
+
+-- rules that are tried one after the other
+abbrev pub both_rules : Rules → Rules → Rules
+both_rules Kept later = later
+both_rules (Broken answer) later = Broken answer
 
 -- a system that keeps its rules: the solution has n words, the areas have their room of kn numbers and kw words, then the run
 abbrev pub admitted : ℕ → ℕ → ℕ → Result (List ℕ) → List ℕ → List ℕ → List ℕ → Call

@@ -1,3 +1,4 @@
+pub mod Answers
 pub mod Numbers
 pub mod Sizes
 pub mod Calls

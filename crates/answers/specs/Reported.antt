@@ -1,6 +1,6 @@
 -- What a solver's call reports of its sums: 0 on a refusal, but that 6 covers the sums done until then.
 use Rattle.std.specs.Prelude.{◌||◌, ℕ, eqb}
-use Rattle.answers.specs.declared.Answer.{Answer}
+use Rattle.answers.specs.Answers.{Answer}
 use Rattle.answers.specs.Numbers.{number_of}
 use Rattle.answers.specs.Calls.{pick}
 

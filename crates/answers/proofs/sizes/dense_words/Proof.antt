@@ -1,8 +1,8 @@
 -- The product is bounded by the largest sizes, so every sum fits.
 use borrow.Author.Rules.{rules}
 use Rattle.answers.proofs.Rooms.{row_words_fit}
-use Rattle.answers.proofs.dense_words.Statement.{statement}
-use Rattle.answers.proofs.dense_words.Tie as tie
+use Rattle.answers.proofs.sizes.dense_words.Statement.{statement}
+use Rattle.answers.proofs.sizes.dense_words.Tie as tie
 
 pub dense_words_spec : {M : Type 1} → statement M
 dense_words_spec =

@@ -1,8 +1,8 @@
 -- The product is bounded by the largest sizes, so every sum fits.
 use borrow.Author.Rules.{rules}
 use Rattle.answers.proofs.Rooms.{cells_fit}
-use Rattle.answers.proofs.sparse_numbers.Statement.{statement}
-use Rattle.answers.proofs.sparse_numbers.Tie as tie
+use Rattle.answers.proofs.sizes.sparse_numbers.Statement.{statement}
+use Rattle.answers.proofs.sizes.sparse_numbers.Tie as tie
 
 pub sparse_numbers_spec : {M : Type 1} → statement M
 sparse_numbers_spec =

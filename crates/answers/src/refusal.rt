@@ -1,0 +1,142 @@
+// Why a call is refused, and what calls hand back.
+ghost use Rattle.std.specs.Prelude.{◌≡◌};
+ghost use Rattle.answers.specs.Answers.{Answer, refusal_of, unpeeled_of, answer_by};
+ghost use Rattle.answers.specs.Numbers.{number_of, place_of};
+
+// Why a call is refused; a number in brackets is the place.
+#[derive(Clone, Copy, PartialEq, Debug)]
+pub enum Refusal {
+    TooLarge,
+    BadShape,
+    BadEntry(usize),
+    WrongSolution,
+    ShortArea,
+    Unsolvable,
+    CrowdedVertex(usize),
+    BadFile,
+    OutsideDomain,
+}
+
+// What a stuck peeler tells of edges that it could not peel.
+#[derive(Clone, Copy, PartialEq, Debug)]
+pub struct StuckReport {
+    // Edges peeled: those outside the core.
+    pub peeled: usize,
+    // Edges in all.
+    pub edges: usize,
+    // The percentage of edges that are in the core.
+    pub unpeeled: f64,
+}
+
+// Why a peeler hands back no solution.
+#[derive(Clone, Copy, PartialEq, Debug)]
+pub enum Unpeeled {
+    Refused(Refusal),
+    // A core is left, and only here is there a report.
+    Stuck(StuckReport),
+}
+
+impl From<Refusal> for Unpeeled {
+    ghost use Rattle.answers.specs.declared.refusal.Unpeeled.TheVariants.{Refused};
+
+    ghost from_gives = { λ refusal unpeeled. unpeeled ≡ Refused refusal };
+
+    fn from(refusal: Refusal) -> Unpeeled {
+        Unpeeled::Refused(refusal)
+    }
+}
+
+// A reason that has a number and a place in the rules.
+pub trait Numbered: Copy {
+    ghost answer: { Self → Answer };
+
+    fn number(self) -> u32
+        ensures { result ≡ number_of (answer self) };
+
+    fn place(self) -> usize
+        ensures { result ≡ place_of (answer self) };
+}
+
+impl Numbered for Refusal {
+    ghost answer = { refusal_of };
+
+    fn number(self) -> u32 {
+        match self {
+            Refusal::TooLarge => 1,
+            Refusal::BadShape => 2,
+            Refusal::BadEntry(_) => 3,
+            Refusal::WrongSolution => 4,
+            Refusal::ShortArea => 5,
+            Refusal::Unsolvable => 6,
+            Refusal::CrowdedVertex(_) => 7,
+            Refusal::BadFile => 9,
+            Refusal::OutsideDomain => 10,
+        }
+    }
+
+    fn place(self) -> usize {
+        match self {
+            Refusal::BadEntry(place) => place,
+            Refusal::CrowdedVertex(vertex) => vertex,
+            _ => 0,
+        }
+    }
+}
+
+impl Numbered for Unpeeled {
+    ghost answer = { unpeeled_of };
+
+    fn number(self) -> u32 {
+        match self {
+            Unpeeled::Refused(refusal) => refusal.number(),
+            Unpeeled::Stuck(_) => 8,
+        }
+    }
+
+    fn place(self) -> usize {
+        match self {
+            Unpeeled::Refused(refusal) => refusal.place(),
+            Unpeeled::Stuck(report) => report.peeled,
+        }
+    }
+}
+
+// The number that a call's result has in the rules: 0 where there is no reason against it.
+pub fn number<T, E: Numbered>(answer: &Result<T, E>) -> u32
+    ensures { result ≡ number_of (answer_by E.answer answer.now) }
+{
+    match answer {
+        Ok(_) => 0,
+        Err(reason) => reason.number(),
+    }
+}
+
+// The place that goes with the number.
+pub fn place<T, E: Numbered>(answer: &Result<T, E>) -> usize
+    ensures { result ≡ place_of (answer_by E.answer answer.now) }
+{
+    match answer {
+        Ok(_) => 0,
+        Err(reason) => reason.place(),
+    }
+}
+
+// What a solver's call answers, and how many variables cancelled in the sums that it made.
+#[derive(Clone, Copy, PartialEq, Debug)]
+pub struct Built {
+    pub answer: Result<(), Refusal>,
+    pub cancelled: u64,
+}
+
+impl Built {
+    // A call that is refused before it makes a sum.
+    pub fn refused(refusal: Refusal) -> Built
+        ensures answer_value { result.answer ≡ Err refusal }
+        ensures cancelled_value { result.cancelled ≡ 0 }
+    {
+        Built {
+            answer: Err(refusal),
+            cancelled: 0,
+        }
+    }
+}
