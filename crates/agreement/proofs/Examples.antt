@@ -11,7 +11,7 @@ use Rattle.gf2.specs.NumberLists.{up_from, down_from, keep, first_of}
 use Rattle.areas.specs.Stretch.{stretch, put, zeros, cleared}
 use Rattle.answers.specs.Calls.{Call}
 use Rattle.answers.specs.Sizes.{lazy_numbers, lazy_words, dense_numbers, dense_words}
-use Rattle.answers.specs.declared.Answer.TheVariants.{Solved}
+use Rattle.answers.specs.Answers.{Solved}
 use Rattle.system.specs.System.{equation_at, equations_from, climbs, starts_kept, rises_below, lowest_bad, sizes_fit, shape_kept, system_rules}
 use Rattle.system.proofs.SolverCalls.{Lent, system}
 use Rattle.sparse_rules.specs.Eliminate.{summed, meeting, meet_row, outer_row, outer_rows, echelon_form, contradicted, pin, back_sub, finish, gaussian_elimination}

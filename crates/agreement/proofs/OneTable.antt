@@ -11,7 +11,7 @@ use Rattle.gf2.specs.Span.{Cancels}
 use Rattle.gf2.specs.Canonical.{Canonical}
 use Rattle.gf2.proofs.Spans.{solved_not_cancels}
 use Rattle.answers.specs.Calls.{Call}
-use Rattle.answers.specs.declared.Answer.TheVariants.{Solved, Unsolvable}
+use Rattle.answers.specs.Answers.{Solved, Unsolvable}
 use Rattle.system.proofs.Soundness.{kept_sound}
 use Rattle.system.proofs.SolverCalls.{Lent, system}
 use Rattle.sparse_rules.proofs.CallTheorems.{sparse_on, SparseRuns, sparse_call_canonical, sparse_call_says}

@@ -1,8 +1,8 @@
 -- The numbers of answers.
 use Rattle.std.proofs.Common.{◌≤◌, arith}
 use Rattle.answers.specs.Numbers.{number_of}
-use Rattle.answers.specs.declared.Answer.{Answer}
-use Rattle.answers.specs.declared.Answer.TheVariants.{Solved, TooLarge, BadShape, BadEntry, WrongSolution, ShortArea, Unsolvable, CrowdedVertex, Stuck, BadFile, OutsideDomain}
+use Rattle.answers.specs.Answers.{Answer}
+use Rattle.answers.specs.Answers.{Solved, TooLarge, BadShape, BadEntry, WrongSolution, ShortArea, Unsolvable, CrowdedVertex, Stuck, BadFile, OutsideDomain}
 
 pub number_most : (a : Answer) → number_of a ≤ 10
 number_most Solved = omega arith

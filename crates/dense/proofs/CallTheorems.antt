@@ -16,8 +16,8 @@ use Rattle.areas.specs.Stretch.{cleared}
 use Rattle.answers.specs.Numbers.{number_of}
 use Rattle.answers.specs.Calls.{Call, pick}
 use Rattle.answers.specs.Sizes.{max_variables, max_equations, max_row_words, dense_numbers, dense_words}
-use Rattle.answers.specs.declared.Answer.TheVariants.{Solved, TooLarge, BadShape, BadEntry, Unsolvable}
-use Rattle.answers.specs.declared.Rules.TheVariants.{Kept, Broken}
+use Rattle.answers.specs.Answers.{Solved, TooLarge, BadShape, BadEntry, Unsolvable}
+use Rattle.answers.specs.Answers.{Kept, Broken}
 use Rattle.answers.proofs.Calls.{Early, Admitted, call_two, solved_call, unsolvable_call, none_call, call_keeps, call_untouched, call_cleared}
 use Rattle.dense_rows.specs.Bits.{Row, row_fits}
 use Rattle.dense_rows.specs.Rows.{rows_of}

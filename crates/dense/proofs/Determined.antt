@@ -6,7 +6,7 @@ use contract.Lifetimes.{Lfts}
 use denote.Triple.Clauses.{AtExit}
 use borrow.Fn.Kinds.{Dens, ended_of}
 use Rattle.answers.specs.Calls.{Call}
-use Rattle.answers.specs.declared.Answer.{Answer}
+use Rattle.answers.specs.Answers.{Answer}
 use Rattle.answers.proofs.Determined.{determined}
 use Rattle.dense.specs.Call.{dense_call}
 use Rattle.dense.proofs.dense_gaussian_elimination.Kinds as kinds

@@ -12,8 +12,8 @@ use Rattle.gf2.specs.Equation.{eval_vars}
 use Rattle.gf2.specs.Ours.{any_ours, all_ours, our_part}
 use Rattle.answers.specs.Calls.{refused}
 use Rattle.answers.specs.Sizes.{max_variables, max_equations, max_row_words}
-use Rattle.answers.specs.declared.Answer.TheVariants.{Solved, TooLarge, BadShape, BadEntry, WrongSolution, ShortArea, Unsolvable}
-use Rattle.answers.specs.declared.Rules.TheVariants.{Kept, Broken}
+use Rattle.answers.specs.Answers.{Solved, TooLarge, BadShape, BadEntry, WrongSolution, ShortArea, Unsolvable}
+use Rattle.answers.specs.Answers.{Kept, Broken}
 use Rattle.dense_rows.specs.Bits.{bit_at, columns_from, empty_from, xor_words}
 use Rattle.dense_rows.specs.Rows.{row_at, rows_from}
 use Rattle.dense_rows.specs.Steps.{pivot_from, from_word, swap_rows, xor_from, clear_row}

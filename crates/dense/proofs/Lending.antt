@@ -18,10 +18,10 @@ use Rattle.areas.proofs.Offsets.{row_before}
 use Rattle.answers.specs.Numbers.{number_of}
 use Rattle.answers.specs.Sizes.{max_variables, max_equations, max_row_words}
 use Rattle.answers.specs.Calls.{pick}
-use Rattle.answers.specs.declared.Answer.{Answer}
-use Rattle.answers.specs.declared.Answer.TheVariants.{TooLarge, BadShape, BadEntry}
-use Rattle.answers.specs.declared.Rules.{Rules}
-use Rattle.answers.specs.declared.Rules.TheVariants.{Kept, Broken}
+use Rattle.answers.specs.Answers.{Answer}
+use Rattle.answers.specs.Answers.{TooLarge, BadShape, BadEntry}
+use Rattle.answers.specs.Answers.{Rules}
+use Rattle.answers.specs.Answers.{Kept, Broken}
 use Rattle.dense_rows.specs.Bits.{Row, bit_at, row_fits}
 use Rattle.dense_rows.specs.Rows.{row_at, rows_from, rows_of}
 use Rattle.dense_rows.specs.Steps.{no_row}

@@ -9,9 +9,9 @@ use lib.ListN.{length, get_or}
 use Rattle.gf2.specs.Equation.{Each}
 use Rattle.areas.specs.Stretch.{stretch}
 use Rattle.areas.proofs.Offsets.{row_before}
-use Rattle.answers.specs.declared.Answer.TheVariants.{BadEntry}
-use Rattle.answers.specs.declared.Rules.{Rules}
-use Rattle.answers.specs.declared.Rules.TheVariants.{Kept, Broken}
+use Rattle.answers.specs.Answers.{BadEntry}
+use Rattle.answers.specs.Answers.{Rules}
+use Rattle.answers.specs.Answers.{Kept, Broken}
 use Rattle.dense_rows.specs.Bits.{Row, row_fits}
 use Rattle.dense_rows.specs.Rows.{row_at, rows_from, rows_of}
 use Rattle.dense_rows.specs.Steps.{no_row}

@@ -13,7 +13,7 @@ use Rattle.gf2.proofs.SymDiff.{each_sym_diff}
 use Rattle.areas.specs.Stretch.{stretch, put, zeroed, cleared}
 use Rattle.areas.proofs.Stretch.{stretch-stretch, stretch-put_before, stretch-put_within, length-put, drop-put_after, get_or-put, put_all, cleared_is_put, cleared_same, drop_agree}
 use Rattle.areas.proofs.Offsets.{row_before}
-use Rattle.answers.specs.declared.Rules.TheVariants.{Kept}
+use Rattle.answers.specs.Answers.{Kept}
 use Rattle.dense_rows.specs.Bits.{Row, bit_at, columns_from, columns}
 use Rattle.dense_rows.specs.Rows.{row_at, rows_of, held, Became}
 use Rattle.dense_rows.proofs.ColumnLaws.{columns_from_add, columns_from_none, columns_below}

@@ -13,7 +13,7 @@ use Rattle.gf2.specs.Ours.{Apart, our_part}
 use Rattle.gf2.specs.Result.{unsolvable, ok}
 use Rattle.gf2.proofs.EachMap.{each_of_map}
 use Rattle.gf2.proofs.Canon.{isolated, canonical_lt}
-use Rattle.answers.specs.declared.Rules.TheVariants.{Kept}
+use Rattle.answers.specs.Answers.{Kept}
 use Rattle.dense_rows.specs.Bits.{equation_of}
 use Rattle.dense_rows.specs.Rows.{row_at, rows_of}
 use Rattle.dense_rows.proofs.StepLaws.{Wide}

@@ -3,9 +3,9 @@ use Rattle.std.specs.Prelude.{List, [], ◌∷◌, true, false, ◌&&◌, ℕ, s
 use Rattle.gf2.specs.Equation.{Equation}
 use Rattle.answers.specs.Sizes.{max_variables, max_equations, max_row_words, dense_numbers, dense_words}
 use Rattle.answers.specs.Calls.{Call, pick, solver_call}
-use Rattle.answers.specs.declared.Answer.TheVariants.{TooLarge, BadShape, BadEntry}
-use Rattle.answers.specs.declared.Rules.{Rules}
-use Rattle.answers.specs.declared.Rules.TheVariants.{Kept, Broken}
+use Rattle.answers.specs.Answers.{TooLarge, BadShape, BadEntry}
+use Rattle.answers.specs.Answers.{Rules}
+use Rattle.answers.specs.Answers.{Kept, Broken}
 use Rattle.dense_rows.specs.Bits.{Row, row_fits, equations_of}
 use Rattle.dense_rows.specs.Rows.{rows_of}
 use Rattle.dense_walk.specs.Eliminate.{dense_elimination}

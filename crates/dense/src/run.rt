@@ -5,7 +5,7 @@ ghost use Rattle.answers.specs.Sizes.{dense_numbers, dense_words};
 ghost use Rattle.answers.specs.Calls.{ran};
 ghost use Rattle.dense_rows.specs.Rows.{rows_of, Became};
 ghost use Rattle.dense_walk.specs.Eliminate.{dense_elimination};
-ghost use Rattle.answers.specs.declared.Rules.TheVariants.{Kept};
+ghost use Rattle.answers.specs.Answers.{Kept};
 ghost use Rattle.dense.specs.Call.{dense_rules};
 
 use answers::Answer;

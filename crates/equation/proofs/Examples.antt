@@ -8,7 +8,7 @@ use Rattle.gf2.specs.NumberLists.{count, one}
 use Rattle.areas.specs.Stretch.{put}
 use Rattle.areas.specs.Rows.{padded}
 use Rattle.answers.specs.Sizes.{max_summed}
-use Rattle.answers.specs.declared.Answer.TheVariants.{Solved, TooLarge, BadEntry, ShortArea}
+use Rattle.answers.specs.Answers.{Solved, TooLarge, BadEntry, ShortArea}
 use Rattle.equation.specs.Increase.{rises, rises_from}
 use Rattle.equation.specs.Sums.{sum_call, refused_sum}
 use Rattle.gf2.specs.Common.{common}

@@ -20,8 +20,8 @@ use Rattle.areas.proofs.Rows.{length-padded, stretch-padded}
 use Rattle.answers.specs.Sizes.{max_summed}
 use Rattle.answers.specs.Numbers.{number_of}
 use Rattle.answers.specs.Calls.{pick}
-use Rattle.answers.specs.declared.Answer.{Answer}
-use Rattle.answers.specs.declared.Answer.TheVariants.{Solved, TooLarge, BadEntry, ShortArea}
+use Rattle.answers.specs.Answers.{Answer}
+use Rattle.answers.specs.Answers.{Solved, TooLarge, BadEntry, ShortArea}
 use Rattle.equation.specs.Increase.{rises}
 use Rattle.equation.specs.Sums.{SumCall, sum_call, made_sum, refused_sum}
 use Rattle.equation.proofs.Rise.{increasing_rises}

@@ -7,8 +7,8 @@ use Rattle.areas.specs.Rows.{padded}
 use Rattle.answers.specs.Sizes.{max_summed}
 use Rattle.answers.specs.Numbers.{number_of, place_of}
 use Rattle.answers.specs.Calls.{pick}
-use Rattle.answers.specs.declared.Answer.{Answer}
-use Rattle.answers.specs.declared.Answer.TheVariants.{Solved, TooLarge, BadEntry, ShortArea}
+use Rattle.answers.specs.Answers.{Answer}
+use Rattle.answers.specs.Answers.{Solved, TooLarge, BadEntry, ShortArea}
 use Rattle.equation.specs.declared.Summed.{Summed}
 use Rattle.equation.specs.Increase.{rises}
 use Rattle.gf2.specs.Common.{common}

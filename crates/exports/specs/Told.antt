@@ -1,7 +1,7 @@
 -- What `check` says, as it is told to a program in another language: a number and a place.
 use Rattle.std.specs.Prelude.{ℕ}
 use Rattle.answers.specs.Numbers.{number_of, place_of}
-use Rattle.answers.specs.declared.Answer.TheVariants.{Solved, Unsolvable}
+use Rattle.answers.specs.Answers.{Solved, Unsolvable}
 use Rattle.system_check.specs.declared.Checked.{Checked}
 use Rattle.system_check.specs.declared.Checked.TheVariants.{Refused, Yes, No}
 

@@ -10,7 +10,7 @@ use Rattle.gf2.specs.Equation.{eval_vars, lists, sym_diff}
 use Rattle.gf2.specs.NumberLists.{up_from, down_from, keep, first_of}
 use Rattle.gf2.specs.Ours.{any_ours, all_ours, our_part}
 use Rattle.answers.specs.Calls.{refused}
-use Rattle.answers.specs.declared.Answer.TheVariants.{Solved, BadEntry, WrongSolution, ShortArea, Unsolvable}
+use Rattle.answers.specs.Answers.{Solved, BadEntry, WrongSolution, ShortArea, Unsolvable}
 use Rattle.system.specs.System.{equation_at, equations_from, climbs, starts_kept, rises_below, lowest_bad, sizes_fit, shape_kept, system_rules}
 use Rattle.sparse_rules.specs.Eliminate.{summed, meeting, meet_row, outer_row, contradicted, pin, back_sub}
 use Rattle.sparse_rules.proofs.CallExamples.{ours, one_build, other_build}

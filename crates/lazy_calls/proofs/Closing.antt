@@ -10,7 +10,7 @@ use Rattle.gf2.specs.Result.{Result, unsolvable, ok}
 use Rattle.areas.specs.Stretch.{put, cleared}
 use Rattle.areas.proofs.Stretch.{put_all}
 use Rattle.answers.specs.Calls.{ran}
-use Rattle.answers.specs.declared.Answer.{Answer}
+use Rattle.answers.specs.Answers.{Answer}
 use Rattle.lazy_units.specs.Running.{Answers}
 
 -- the part that was lent is zero, and what lies past it is as it was

@@ -6,7 +6,7 @@ use contract.Lifetimes.{Lfts}
 use denote.Triple.Clauses.{AtExit}
 use borrow.Fn.Kinds.{Dens, ended_of}
 use Rattle.answers.specs.Calls.{Call}
-use Rattle.answers.specs.declared.Built.{Built}
+use Rattle.answers.specs.declared.refusal.Built.{Built}
 use Rattle.answers.proofs.Determined.{built_determined}
 use Rattle.system.specs.System.{equations}
 use Rattle.lazy.specs.Cancelled.{lazy_cancels}

@@ -7,9 +7,9 @@ use lib.ListN.{length}
 use borrow.Author.Tests.{eq-eqb, ne_eqb, le-leb, lt-leb}
 use Rattle.answers.specs.Calls.{Call}
 use Rattle.answers.specs.Sizes.{lazy_numbers, lazy_words}
-use Rattle.answers.specs.declared.Answer.{Answer}
-use Rattle.answers.specs.declared.Answer.TheVariants.{WrongSolution, ShortArea}
-use Rattle.answers.specs.declared.Rules.TheVariants.{Kept, Broken}
+use Rattle.answers.specs.Answers.{Answer}
+use Rattle.answers.specs.Answers.{WrongSolution, ShortArea}
+use Rattle.answers.specs.Answers.{Kept, Broken}
 use Rattle.answers.proofs.Told.{Says}
 use Rattle.system.specs.System.{system_rules}
 use Rattle.lazy_calls.specs.LazyCall.{lazy_ran, lazy_call}

@@ -6,7 +6,7 @@ use native.Mathlib.Omega.{arith}
 use lib.ListN.{length, drop, drop_of_length-le}
 use Rattle.gf2.specs.Equation.{Equation}
 use Rattle.answers.specs.Sizes.{lazy_numbers, lazy_words}
-use Rattle.answers.specs.declared.Answer.{Answer}
+use Rattle.answers.specs.Answers.{Answer}
 use Rattle.system.specs.Fits.{Fits}
 use Rattle.system.specs.System.{equations}
 use Rattle.lazy.specs.Lazy.{start, enough, whole_run, lazy_elimination}

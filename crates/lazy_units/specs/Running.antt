@@ -2,8 +2,8 @@
 use Rattle.std.specs.Prelude.{◌≡◌, List, ℕ, ◌+◌, ◌-◌, ◌<◌}
 use Rattle.gf2.specs.Equation.{Equation}
 use Rattle.gf2.specs.Result.{Result, unsolvable, ok}
-use Rattle.answers.specs.declared.Answer.{Answer}
-use Rattle.answers.specs.declared.Answer.TheVariants.{Solved, Unsolvable}
+use Rattle.answers.specs.Answers.{Answer}
+use Rattle.answers.specs.Answers.{Solved, Unsolvable}
 use Rattle.lazy.specs.Lazy.{State, more, after, answer_of}
 use Rattle.lazy.specs.Cancelled.{after_cancels}
 use Rattle.lazy_setup.specs.declared.Layout.{Layout}

@@ -8,7 +8,7 @@ use lib.ListN.{length, drop}
 use lib.Bits.{xor_zero_r}
 use Rattle.gf2.specs.Equation.{Equation, eqn, Each, eval_vars, Meets, MeetsAll}
 use Rattle.answers.specs.Sizes.{peel_low_numbers, peel_low_bytes}
-use Rattle.answers.specs.declared.Answer.TheVariants.{Solved}
+use Rattle.answers.specs.Answers.{Solved}
 use Rattle.peeling.specs.declared.numbers.Edge.{Edge}
 use Rattle.peel_rules.specs.Peel.{edge_xor, Met}
 use Rattle.peel_rules.proofs.PeelCalls.{call_solved}

@@ -12,8 +12,8 @@ use Rattle.gf2.specs.Equation.{Equation, MeetsAll}
 use Rattle.gf2.proofs.Both.{both}
 use Rattle.answers.specs.Calls.{pick}
 use Rattle.answers.specs.Numbers.{number_of, place_of}
-use Rattle.answers.specs.declared.Answer.{Answer}
-use Rattle.answers.specs.declared.Answer.TheVariants.{Solved, TooLarge, BadShape, BadEntry, WrongSolution, ShortArea, Unsolvable, CrowdedVertex, Stuck, BadFile, OutsideDomain}
+use Rattle.answers.specs.Answers.{Answer}
+use Rattle.answers.specs.Answers.{Solved, TooLarge, BadShape, BadEntry, WrongSolution, ShortArea, Unsolvable, CrowdedVertex, Stuck, BadFile, OutsideDomain}
 use Rattle.areas.specs.Stretch.{put, zeros}
 use Rattle.areas.proofs.Stretch.{take-replicate}
 use Rattle.link_form.specs.declared.scan.Form.TheVariants.{Malformed, Described}

@@ -12,7 +12,7 @@ use Rattle.gf2.specs.Equation.{MeetsAll}
 use Rattle.areas.specs.Stretch.{put}
 use Rattle.areas.proofs.Stretch.{length-put}
 use Rattle.answers.specs.Calls.{pick}
-use Rattle.answers.specs.declared.Answer.TheVariants.{Solved}
+use Rattle.answers.specs.Answers.{Solved}
 use Rattle.system.specs.Fits.{listed_in}
 use Rattle.link_form.specs.File.{Link, read_file, write_file}
 use Rattle.link_form.specs.Fitting.{LinkFits}

@@ -4,7 +4,7 @@ use Rattle.std.proofs.Math.Option.{Option, none, some}
 use Rattle.gf2.specs.Equation.{Equation}
 use Rattle.areas.specs.Stretch.{put, zeros}
 use Rattle.answers.specs.Calls.{Call, pick}
-use Rattle.answers.specs.declared.Answer.TheVariants.{TooLarge, BadFile}
+use Rattle.answers.specs.Answers.{TooLarge, BadFile}
 use Rattle.system.specs.Fits.{listed_in}
 use Rattle.peel_rules.specs.Calls.{PeelCall}
 use Rattle.link_form.specs.File.{Link, peel_kind, read_file}

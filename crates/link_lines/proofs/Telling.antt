@@ -6,7 +6,7 @@ use native.Mathlib.Omega.{arith}
 use lib.ListN.{length}
 use borrow.Author.Tests.{eq-eqb, ne_eqb}
 use Rattle.answers.specs.Numbers.{number_of, place_of}
-use Rattle.answers.specs.declared.Answer.{Answer}
+use Rattle.answers.specs.Answers.{Answer}
 use Rattle.areas.specs.Stretch.{put}
 use Rattle.link_lines.specs.Lines.{answer_line, value_lines, most_ended, most_answer}
 use Rattle.link_lines.proofs.Lining.{Told, told_first, told_more, answer_short, values_short}

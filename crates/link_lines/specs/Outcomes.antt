@@ -2,7 +2,7 @@
 use Rattle.std.specs.Prelude.{List, [], ◌++◌, ℕ, eqb}
 use Rattle.answers.specs.Calls.{pick}
 use Rattle.answers.specs.Numbers.{number_of, place_of}
-use Rattle.answers.specs.declared.Answer.{Answer}
+use Rattle.answers.specs.Answers.{Answer}
 use Rattle.link_lines.specs.Lines.{answer_line, value_lines}
 
 -- what a call answers, and the solution that it leaves

@@ -7,7 +7,7 @@ use lib.ListN.{length}
 use lib.Dec.{eqb}
 use Rattle.gf2.specs.Equation.{Equation, MeetsAll}
 use Rattle.answers.specs.Calls.{Call, pick}
-use Rattle.answers.specs.declared.Answer.TheVariants.{Solved}
+use Rattle.answers.specs.Answers.{Solved}
 use Rattle.system.proofs.SolverCalls.{Lent}
 use Rattle.sparse_rules.specs.SparseCall.{sparse_call}
 use Rattle.sparse_rules.proofs.CallTheorems.{sparse_call_solves}

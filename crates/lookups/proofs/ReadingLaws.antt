@@ -9,7 +9,7 @@ use lib.Dec.{leb}
 use Rattle.answers.specs.Sizes.{max_variables}
 use Rattle.answers.specs.Calls.{pick}
 use Rattle.answers.specs.Numbers.{number_of, place_of}
-use Rattle.answers.specs.declared.Answer.TheVariants.{Solved, TooLarge, BadEntry}
+use Rattle.answers.specs.Answers.{Solved, TooLarge, BadEntry}
 use Rattle.peeling.specs.declared.numbers.Edge.{Edge}
 use Rattle.peel_rules.specs.Peel.{edge_xor}
 use Rattle.peel_rules.specs.Calls.{LookupCall, lookup_call}

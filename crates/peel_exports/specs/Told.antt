@@ -1,7 +1,7 @@
 -- What a peeler's call answers, as it is told to a program in another language.
 use Rattle.std.specs.Prelude.{◌≡◌, List, ℕ, Float}
 use Rattle.answers.specs.Numbers.{number_of, place_of}
-use Rattle.answers.specs.declared.Answer.{Answer}
+use Rattle.answers.specs.Answers.{Answer}
 use Rattle.peel_rules.specs.Calls.{PeelCall}
 use Rattle.peel_rules.specs.declared.report.StuckReport.{StuckReport}
 

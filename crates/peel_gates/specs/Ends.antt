@@ -1,7 +1,7 @@
 -- What a peeler answers at the end of its run.
 use Rattle.std.specs.Prelude.{ℕ, ltb}
 use Rattle.answers.specs.Calls.{pick}
-use Rattle.answers.specs.declared.Answer.TheVariants.{Solved, Stuck}
+use Rattle.answers.specs.Answers.{Solved, Stuck}
 use Rattle.peel_rules.specs.Report.{no_report, report_of}
 use Rattle.peel_gates.specs.declared.ends.Peeling.{Peeling}
 

@@ -2,8 +2,8 @@
 use Rattle.std.specs.Prelude.{Bool, true, false, ◌&&◌, ℕ, eqb, leb, ltb}
 use Rattle.answers.specs.Sizes.{max_variables, max_equations}
 use Rattle.answers.specs.Calls.{pick}
-use Rattle.answers.specs.declared.Answer.{Answer}
-use Rattle.answers.specs.declared.Answer.TheVariants.{Solved, TooLarge, BadEntry, WrongSolution, ShortArea}
+use Rattle.answers.specs.Answers.{Answer}
+use Rattle.answers.specs.Answers.{Solved, TooLarge, BadEntry, WrongSolution, ShortArea}
 use Rattle.peel_rules.specs.Report.{no_report}
 use Rattle.peel_gates.specs.declared.rules.Gate.{Gate}
 use Rattle.peel_gates.specs.Rooms.{numbers_room, bytes_room}

@@ -1,7 +1,7 @@
 // What a peeler answers.
 ghost use Rattle.std.specs.Prelude.{◌≡◌, ◌≤◌};
 ghost use Rattle.answers.specs.Sizes.{max_equations};
-ghost use Rattle.answers.specs.declared.Answer.TheVariants.{CrowdedVertex};
+ghost use Rattle.answers.specs.Answers.{CrowdedVertex};
 ghost use Rattle.peel_rules.specs.Report.{no_report, report_of};
 ghost use Rattle.peel_gates.specs.Ends.{end_of};
 

@@ -13,7 +13,7 @@ use Rattle.answers.specs.Calls.{pick}
 use borrow.Author.Tests.{lt-ltb, le-ltb, ltb-true, ltb-false}
 use Rattle.gf2.specs.Equation.{Each}
 use Rattle.areas.specs.Stretch.{cleared, zeroed}
-use Rattle.answers.specs.declared.Answer.TheVariants.{Solved, Stuck}
+use Rattle.answers.specs.Answers.{Solved, Stuck}
 use Rattle.peeling.specs.declared.numbers.Edge.{Edge}
 use Rattle.peeling.specs.Graph.{Graph, graph_of, add}
 use Rattle.peel_rules.specs.Edges.{Valid}

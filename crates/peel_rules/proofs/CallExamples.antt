@@ -7,7 +7,7 @@ use lib.Dec.{ltb}
 use lib.ListN.{get_or, replicate}
 use Rattle.gf2.specs.Equation.{Each}
 use Rattle.areas.specs.Stretch.{cleared}
-use Rattle.answers.specs.declared.Answer.TheVariants.{Solved}
+use Rattle.answers.specs.Answers.{Solved}
 use Rattle.peel_rules.specs.Edges.{edge, bad_edge, touches, degree, edge_at, without, side_of, pivot, first, second}
 use Rattle.peel_rules.specs.Peel.{push, popped, pop, step, run, ones, start, peel, fill_one, fill, verdict, answer, crowded_from, crowded_vertex}
 use Rattle.peel_rules.specs.Ours.{Closed, keep}

@@ -10,7 +10,7 @@ use lib.Dec.{leb}
 use borrow.Author.Tests.{le-leb, eq-eqb, le-ltb, leb-true}
 use Rattle.gf2.specs.Equation.{Each}
 use Rattle.answers.specs.Sizes.{max_variables, max_equations, peel_high_numbers, peel_high_bytes, peel_low_numbers, peel_low_bytes}
-use Rattle.answers.specs.declared.Answer.TheVariants.{Solved, TooLarge, Stuck}
+use Rattle.answers.specs.Answers.{Solved, TooLarge, Stuck}
 use Rattle.peeling.specs.declared.numbers.Edge.{Edge}
 use Rattle.peel_rules.specs.Edges.{Valid, bad_edge}
 use Rattle.peel_rules.specs.Peel.{Met, stuck, answer, crowded_vertex}

@@ -9,7 +9,7 @@ use lib.Dec.{eqb, leb, ltb}
 use borrow.Author.Tests.{le-leb, ltb-false}
 use Rattle.gf2.specs.Equation.{Each}
 use Rattle.answers.specs.Sizes.{max_variables, max_equations, peel_high_numbers, peel_high_bytes, peel_low_numbers, peel_low_bytes}
-use Rattle.answers.specs.declared.Answer.TheVariants.{Solved, TooLarge, BadEntry, WrongSolution, ShortArea, CrowdedVertex, Stuck}
+use Rattle.answers.specs.Answers.{Solved, TooLarge, BadEntry, WrongSolution, ShortArea, CrowdedVertex, Stuck}
 use Rattle.peeling.specs.declared.numbers.Edge.{Edge}
 use Rattle.peel_rules.specs.Edges.{Valid, bad_edge}
 use Rattle.peel_rules.specs.Peel.{Outcome, solved, stuck, answer, crowded_vertex}

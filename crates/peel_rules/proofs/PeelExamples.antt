@@ -5,7 +5,7 @@ use Prim.Native.Nat.{ℕ, zero, suc, ◌+◌, ◌*◌}
 use lib.ListN.{replicate}
 use lib.Ieee.{binary64, mul, div, of_int, round, units, odd, span, climb, size}
 use Rattle.areas.specs.Stretch.{zeros, cleared}
-use Rattle.answers.specs.declared.Answer.TheVariants.{Solved, CrowdedVertex, Stuck}
+use Rattle.answers.specs.Answers.{Solved, CrowdedVertex, Stuck}
 use Rattle.peeling.specs.declared.numbers.Edge.{Edge}
 use Rattle.peel_rules.specs.Edges.{edge, bad_edge, touches, degree, edge_at, without, side_of, pivot, first, second}
 use Rattle.peel_rules.specs.Peel.{push, popped, pop, step, run, ones, start, peel, fill_one, fill, verdict, answer, crowded_from, crowded_vertex}

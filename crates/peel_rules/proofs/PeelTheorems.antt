@@ -11,7 +11,7 @@ use borrow.Author.Tests.{ltb-true, lt-ltb, eqb-false, ne_eqb, le-leb}
 use Rattle.gf2.specs.Equation.{Each}
 use Rattle.gf2.proofs.Each.{each_at, each_from}
 use Rattle.answers.specs.Sizes.{max_variables}
-use Rattle.answers.specs.declared.Answer.TheVariants.{Solved}
+use Rattle.answers.specs.Answers.{Solved}
 use Rattle.peeling.specs.declared.numbers.Edge.{Edge}
 use Rattle.peel_rules.specs.Edges.{edge, Valid, is_valid, bad_edge}
 use Rattle.peel_rules.specs.Peel.{Met, edge_xor, fill, peel, solved, stuck, answer}

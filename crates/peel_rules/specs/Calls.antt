@@ -3,8 +3,8 @@ use Rattle.std.specs.Prelude.{List, ◌&&◌, ℕ, length, eqb, leb, ltb}
 use Rattle.areas.specs.Stretch.{cleared}
 use Rattle.answers.specs.Sizes.{max_variables, max_equations, peel_high_numbers, peel_high_bytes, peel_low_numbers, peel_low_bytes}
 use Rattle.answers.specs.Calls.{pick}
-use Rattle.answers.specs.declared.Answer.{Answer}
-use Rattle.answers.specs.declared.Answer.TheVariants.{Solved, TooLarge, BadEntry, WrongSolution, ShortArea, CrowdedVertex, Stuck}
+use Rattle.answers.specs.Answers.{Answer}
+use Rattle.answers.specs.Answers.{Solved, TooLarge, BadEntry, WrongSolution, ShortArea, CrowdedVertex, Stuck}
 use Rattle.peeling.specs.declared.numbers.Edge.{Edge}
 use Rattle.peel_rules.specs.declared.report.StuckReport.{StuckReport}
 use Rattle.peel_rules.specs.Edges.{edge, is_valid, bad_edge}

@@ -10,7 +10,7 @@ use borrow.Author.Tests.{lt-ltb, le-ltb}
 use Rattle.areas.specs.Stretch.{cleared}
 use Rattle.areas.proofs.Stretch.{cleared_same}
 use Rattle.answers.specs.Numbers.{number_of, place_of}
-use Rattle.answers.specs.declared.Answer.TheVariants.{CrowdedVertex}
+use Rattle.answers.specs.Answers.{CrowdedVertex}
 use Rattle.peeling.specs.declared.numbers.Edge.{Edge}
 use Rattle.peel_rules.specs.Peel.{Outcome, solved, stuck, answer, crowded_vertex}
 use Rattle.peel_rules.specs.Report.{no_report}

@@ -14,7 +14,7 @@ use Rattle.gf2.specs.Equation.{Each}
 use Rattle.gf2.proofs.OneValue.{zeros_at}
 use Rattle.gf2.proofs.XorLaws.{xor_twice, xor_left_comm}
 use Rattle.answers.specs.Calls.{pick}
-use Rattle.answers.specs.declared.Answer.TheVariants.{Solved, OutsideDomain}
+use Rattle.answers.specs.Answers.{Solved, OutsideDomain}
 use Rattle.peeling.specs.Graph.{Graph, holds_vertex, add, overflows, remove}
 use Rattle.peeling.specs.GraphCalls.{AddCall, GraphCall, add_call, remove_call}
 use Rattle.peeling.specs.Incidences.{Incidence, incidence, degree_in, xor_in, Changed, fresh, added, removed, VertexHolds}

@@ -2,8 +2,8 @@
 use Rattle.std.specs.Prelude.{◌≡◌, Bool, ◌&&◌, ◌||◌, ℕ, get_or, ltb, leb}
 use Rattle.answers.specs.Calls.{pick}
 use Rattle.answers.specs.Numbers.{number_of, place_of}
-use Rattle.answers.specs.declared.Answer.{Answer}
-use Rattle.answers.specs.declared.Answer.TheVariants.{Solved, OutsideDomain}
+use Rattle.answers.specs.Answers.{Answer}
+use Rattle.answers.specs.Answers.{Solved, OutsideDomain}
 use Rattle.peeling.specs.declared.graph.VertexRecord.{VertexRecord}
 use Rattle.peeling.specs.declared.graph.Added.{Added}
 use Rattle.peeling.specs.declared.graph.EdgeAndSide.{EdgeAndSide}

@@ -2,7 +2,7 @@
 use Rattle.std.specs.Prelude.{Bool, ◌&&◌, List, ℕ, ltb, eqb, length, get_or}
 use Rattle.answers.specs.Calls.{pick}
 use Rattle.answers.specs.Numbers.{number_of, place_of}
-use Rattle.answers.specs.declared.Answer.{Answer}
+use Rattle.answers.specs.Answers.{Answer}
 use Rattle.replay_cases.specs.declared.said.Said.{Said}
 use Rattle.replay_cases.specs.declared.said.Verdict.{Verdict}
 use Rattle.replay_cases.specs.declared.said.Verdict.TheVariants.{Same, Refused, Departed, Different}

@@ -1,7 +1,7 @@
 -- Lengths that the replay has memory for, and what must come of a call that was lent them.
 use Rattle.std.specs.Prelude.{Bool, false, ◌&&◌, List, ℕ, ◌+◌, ◌-◌, ◌≤◌, ltb, leb, eqb}
 use Rattle.answers.specs.Calls.{pick}
-use Rattle.answers.specs.declared.Answer.{Answer}
+use Rattle.answers.specs.Answers.{Answer}
 use Rattle.lent_cells.specs.Cells.{same_cells, left_cells}
 use Rattle.replay_cases.specs.declared.lend.Room.{Room}
 use Rattle.replay_cases.specs.declared.said.Said.{Said}

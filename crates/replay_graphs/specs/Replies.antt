@@ -1,8 +1,8 @@
 -- What a call on a graph or a stack replies, in the three numbers that the file has for it.
 use Rattle.std.specs.Prelude.{Bool, ◌&&◌, List, ℕ, ◌+◌, leb, eqb, length, get_or}
 use Rattle.answers.specs.Numbers.{number_of}
-use Rattle.answers.specs.declared.Answer.{Answer}
-use Rattle.answers.specs.declared.Answer.TheVariants.{Solved}
+use Rattle.answers.specs.Answers.{Answer}
+use Rattle.answers.specs.Answers.{Solved}
 use Rattle.stack_steps.specs.declared.Popped.{Popped}
 use Rattle.stack_steps.specs.declared.Popped.TheVariants.{Got, Empty, Refused}
 use Rattle.replay_graphs.specs.declared.replies.Reply.{Reply}

@@ -6,7 +6,7 @@ use contract.Lifetimes.{Lfts}
 use denote.Triple.Clauses.{AtExit}
 use borrow.Fn.Kinds.{Dens, ended_of}
 use Rattle.answers.specs.Calls.{Call}
-use Rattle.answers.specs.declared.Answer.{Answer}
+use Rattle.answers.specs.Answers.{Answer}
 use Rattle.answers.proofs.Determined.{determined}
 use Rattle.slow_rules.specs.SlowCall.{slow_call}
 use Rattle.slow_dense.proofs.slow_gaussian_elimination.Kinds as kinds

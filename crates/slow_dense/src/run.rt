@@ -2,7 +2,7 @@
 ghost use Rattle.std.specs.Prelude.{◌≡◌, ◌≤◌, length};
 ghost use Rattle.answers.specs.Sizes.{dense_numbers, dense_words};
 ghost use Rattle.answers.specs.Calls.{ran};
-ghost use Rattle.answers.specs.declared.Rules.TheVariants.{Kept};
+ghost use Rattle.answers.specs.Answers.{Kept};
 ghost use Rattle.dense_rows.specs.Rows.{rows_of};
 ghost use Rattle.dense.specs.Call.{dense_rules};
 ghost use Rattle.slow_rules.specs.Slow.{slow_elimination};

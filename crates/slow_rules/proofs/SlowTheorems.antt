@@ -23,9 +23,9 @@ use Rattle.areas.specs.Stretch.{cleared}
 use Rattle.answers.specs.Numbers.{number_of}
 use Rattle.answers.specs.Calls.{Call, solver_call}
 use Rattle.answers.specs.Sizes.{dense_numbers, dense_words}
-use Rattle.answers.specs.declared.Answer.TheVariants.{Solved, Unsolvable}
-use Rattle.answers.specs.declared.Rules.{Rules}
-use Rattle.answers.specs.declared.Rules.TheVariants.{Kept, Broken}
+use Rattle.answers.specs.Answers.{Solved, Unsolvable}
+use Rattle.answers.specs.Answers.{Rules}
+use Rattle.answers.specs.Answers.{Kept, Broken}
 use Rattle.dense_rows.specs.Bits.{Row, Clear, equation_of, equations_of}
 use Rattle.dense_rows.specs.Rows.{rows_of}
 use Rattle.dense_rows.specs.Steps.{no_row}

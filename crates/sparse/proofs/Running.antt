@@ -11,8 +11,8 @@ use Rattle.gf2.specs.Equation.{Equation}
 use Rattle.gf2.specs.Result.{Result}
 use Rattle.answers.specs.Calls.{ran}
 use Rattle.answers.specs.Sizes.{sparse_numbers, sparse_words}
-use Rattle.answers.specs.declared.Answer.{Answer}
-use Rattle.answers.specs.declared.Answer.TheVariants.{Solved, Unsolvable as Refusal}
+use Rattle.answers.specs.Answers.{Answer}
+use Rattle.answers.specs.Answers.{Solved, Unsolvable as Refusal}
 use Rattle.rows.specs.Picture.{Kept, Became, rows_of}
 use Rattle.rows.proofs.Holding.{rest_kept, rows_are}
 use Rattle.sparse_rules.specs.Eliminate.{gaussian_elimination}

@@ -15,7 +15,7 @@ use Rattle.answers.specs.Numbers.{number_of}
 use Rattle.answers.specs.Calls.{Call}
 use Rattle.answers.specs.Reported.{reported}
 use Rattle.answers.specs.Sizes.{max_variables, max_equations, sparse_numbers, sparse_words}
-use Rattle.answers.specs.declared.Answer.TheVariants.{Solved, Unsolvable}
+use Rattle.answers.specs.Answers.{Solved, Unsolvable}
 use Rattle.answers.proofs.Calls.{call_keeps, call_untouched, call_cleared}
 use Rattle.answers.proofs.Reported.{Reports, call_reports, call_reports_le}
 use Rattle.system.specs.System.{system_rules}

@@ -7,9 +7,9 @@ use lib.ListN.{length}
 use borrow.Author.Tests.{eq-eqb, ne_eqb, le-leb, lt-leb}
 use Rattle.answers.specs.Calls.{Call, ran}
 use Rattle.answers.specs.Sizes.{sparse_numbers, sparse_words}
-use Rattle.answers.specs.declared.Answer.{Answer}
-use Rattle.answers.specs.declared.Answer.TheVariants.{WrongSolution, ShortArea}
-use Rattle.answers.specs.declared.Rules.TheVariants.{Kept, Broken}
+use Rattle.answers.specs.Answers.{Answer}
+use Rattle.answers.specs.Answers.{WrongSolution, ShortArea}
+use Rattle.answers.specs.Answers.{Kept, Broken}
 use Rattle.answers.proofs.Told.{Says}
 use Rattle.system.specs.System.{system_rules, equations}
 use Rattle.sparse_rules.specs.Eliminate.{gaussian_elimination}

@@ -2,7 +2,7 @@
 use Rattle.std.specs.Prelude.{◌≡◌, List, [], ◌∷◌, Bool, ◌&&◌, ℕ, ◌+◌, ◌-◌, length, get_or, set, eqb, leb, ltb}
 use Rattle.answers.specs.Calls.{pick}
 use Rattle.answers.specs.Numbers.{number_of}
-use Rattle.answers.specs.declared.Answer.TheVariants.{Solved, OutsideDomain}
+use Rattle.answers.specs.Answers.{Solved, OutsideDomain}
 use Rattle.stack_steps.specs.declared.Head.{Head}
 use Rattle.stack_steps.specs.declared.Pushed.{Pushed}
 use Rattle.stack_steps.specs.declared.PopStep.{PopStep}

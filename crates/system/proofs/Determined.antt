@@ -3,7 +3,7 @@ use mathlib.Core.Path.{◌≡◌, sym, ◌∙◌}
 use contract.Lifetimes.{Lfts}
 use denote.Triple.Clauses.{AtExit}
 use borrow.Fn.Kinds.{Dens, ended_of}
-use Rattle.answers.specs.declared.Rules.{Rules}
+use Rattle.answers.specs.Answers.{Rules}
 use Rattle.system.proofs.rules.Kinds as kinds
 use Rattle.system.proofs.rules.Reads as rules
 

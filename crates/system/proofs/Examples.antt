@@ -4,8 +4,8 @@ use mathlib.Core.List.{[], ◌∷◌}
 use Prim.Native.Nat.{◌+◌}
 use lib.ListN.{replicate}
 use Rattle.answers.specs.Sizes.{max_variables, max_equations, max_listed}
-use Rattle.answers.specs.declared.Answer.TheVariants.{TooLarge, BadShape}
-use Rattle.answers.specs.declared.Rules.TheVariants.{Kept, Broken}
+use Rattle.answers.specs.Answers.{TooLarge, BadShape}
+use Rattle.answers.specs.Answers.{Kept, Broken}
 use Rattle.system.specs.System.{equations_from, climbs, starts_kept, lowest_bad, sizes_fit, shape_kept, system_rules}
 
 -- the largest n is kept, one more is 1; the largest m and t come to the shape, which is wrong here, one more of either is 1

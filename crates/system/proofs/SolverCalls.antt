@@ -10,7 +10,7 @@ use Rattle.gf2.specs.Span.{Cancels}
 use Rattle.gf2.specs.Ours.{Apart, our_part}
 use Rattle.gf2.specs.Result.{Result, unsolvable, ok}
 use Rattle.answers.specs.Calls.{Call, solver_call}
-use Rattle.answers.specs.declared.Answer.TheVariants.{Solved, Unsolvable}
+use Rattle.answers.specs.Answers.{Solved, Unsolvable}
 use Rattle.answers.proofs.Calls.{Admitted, call_two, solved_call, unsolvable_call, none_call}
 use Rattle.system.specs.System.{system_rules, equations}
 use Rattle.system.specs.Fits.{Fits}

@@ -17,9 +17,9 @@ use Rattle.answers.specs.Sizes.{max_variables, max_equations, max_listed}
 use Rattle.answers.specs.Numbers.{number_of}
 use Rattle.answers.specs.Calls.{pick}
 use Rattle.answers.proofs.Calls.{Early, early_from}
-use Rattle.answers.specs.declared.Answer.{Answer}
-use Rattle.answers.specs.declared.Answer.TheVariants.{TooLarge, BadShape, BadEntry}
-use Rattle.answers.specs.declared.Rules.TheVariants.{Kept, Broken}
+use Rattle.answers.specs.Answers.{Answer}
+use Rattle.answers.specs.Answers.{TooLarge, BadShape, BadEntry}
+use Rattle.answers.specs.Answers.{Kept, Broken}
 use Rattle.system.specs.System.{equation_at, equations_from, equations, starts_kept, in_order, lowest_bad, sizes_fit, shape_kept, system_rules}
 use Rattle.system.specs.Fits.{Fits, listed_in}
 use Rattle.gf2.proofs.Both.{both}

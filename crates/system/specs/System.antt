@@ -4,9 +4,9 @@ use Rattle.gf2.specs.Equation.{Equation, eqn}
 use Rattle.areas.specs.Stretch.{stretch}
 use Rattle.answers.specs.Sizes.{max_variables, max_equations, max_listed}
 use Rattle.answers.specs.Calls.{pick}
-use Rattle.answers.specs.declared.Answer.TheVariants.{TooLarge, BadShape, BadEntry}
-use Rattle.answers.specs.declared.Rules.{Rules}
-use Rattle.answers.specs.declared.Rules.TheVariants.{Kept, Broken}
+use Rattle.answers.specs.Answers.{TooLarge, BadShape, BadEntry}
+use Rattle.answers.specs.Answers.{Rules}
+use Rattle.answers.specs.Answers.{Kept, Broken}
 
 -- ---- the reading
 

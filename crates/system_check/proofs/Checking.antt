@@ -10,10 +10,10 @@ use lib.ListN.{length}
 use lib.Dec.{eqb}
 use Rattle.gf2.specs.Equation.{Equation, MeetsAll}
 use Rattle.answers.specs.Calls.{pick}
-use Rattle.answers.specs.declared.Answer.{Answer}
-use Rattle.answers.specs.declared.Answer.TheVariants.{WrongSolution}
-use Rattle.answers.specs.declared.Rules.{Rules}
-use Rattle.answers.specs.declared.Rules.TheVariants.{Kept, Broken}
+use Rattle.answers.specs.Answers.{Answer}
+use Rattle.answers.specs.Answers.{WrongSolution}
+use Rattle.answers.specs.Answers.{Rules}
+use Rattle.answers.specs.Answers.{Kept, Broken}
 use Rattle.system_check.specs.declared.Checked.TheVariants.{Refused, Yes, No}
 use Rattle.system.specs.System.{equations, system_rules}
 use Rattle.system_check.specs.CheckCall.{all_met, checked, check_call}

@@ -5,7 +5,7 @@ use Prim.Native.Nat.{ℕ, ◌+◌}
 use Rattle.gf2.specs.Equation.{eval_vars, eqn}
 use Rattle.areas.specs.Stretch.{stretch}
 use Rattle.answers.specs.Sizes.{max_variables, max_equations}
-use Rattle.answers.specs.declared.Answer.TheVariants.{TooLarge, BadShape, BadEntry, WrongSolution}
+use Rattle.answers.specs.Answers.{TooLarge, BadShape, BadEntry, WrongSolution}
 use Rattle.system_check.specs.declared.Checked.TheVariants.{Refused, Yes, No}
 use Rattle.system.specs.System.{equation_at, equations_from, equations, climbs, starts_kept, rises_below, lowest_bad, sizes_fit, shape_kept, system_rules}
 use Rattle.system_check.specs.CheckCall.{all_met, check_call}

@@ -2,9 +2,9 @@
 use Rattle.std.specs.Prelude.{List, [], ◌∷◌, Bool, true, ◌&&◌, ℕ, length, eqb}
 use Rattle.gf2.specs.Equation.{Equation, eval_vars}
 use Rattle.answers.specs.Calls.{pick}
-use Rattle.answers.specs.declared.Answer.TheVariants.{WrongSolution}
-use Rattle.answers.specs.declared.Rules.{Rules}
-use Rattle.answers.specs.declared.Rules.TheVariants.{Kept, Broken}
+use Rattle.answers.specs.Answers.{WrongSolution}
+use Rattle.answers.specs.Answers.{Rules}
+use Rattle.answers.specs.Answers.{Kept, Broken}
 use Rattle.system.specs.System.{equations, system_rules}
 use Rattle.system_check.specs.declared.Checked.{Checked}
 use Rattle.system_check.specs.declared.Checked.TheVariants.{Refused, Yes, No}

@@ -1,4 +1,4 @@
-use Rattle.answers.specs.declared.Answer.TheVariants.{CrowdedVertex}
+use Rattle.answers.specs.Answers.{CrowdedVertex}
 use Rattle.peel_rules.specs.declared.report.StuckReport.{StuckReport}
 use mathlib.Core.Path.{ap}
 use borrow.Author.Rules.{rules}

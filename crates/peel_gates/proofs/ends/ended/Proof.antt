@@ -1,5 +1,5 @@
 use borrow.Author.Tests.{lt-ltb, le-ltb}
-use Rattle.answers.specs.declared.Answer.TheVariants.{Solved, Stuck}
+use Rattle.answers.specs.Answers.{Solved, Stuck}
 use Rattle.peel_rules.specs.declared.report.StuckReport.{StuckReport}
 use mathlib.Core.Path.{ap}
 use borrow.Author.Rules.{rules}

@@ -1,6 +1,6 @@
 -- Each refusal by the tests that led there; inside the domain the call is `add_at`.
 use mathlib.Core.Bool.{Bool, ◌||◌}
-use Rattle.answers.specs.declared.Answer.TheVariants.{Solved}
+use Rattle.answers.specs.Answers.{Solved}
 use mathlib.Core.Path.{refl, ap}
 use borrow.Author.Tests.{le-ltb, lt-ltb}
 use borrow.Author.Rules.{rules}
