@@ -18,8 +18,8 @@ pub fn load(m: usize, w: usize, rows: &[u64], constants: &[u64], words: &mut [u6
     ensures { Became m w words.old (rows_of m w rows.now constants.now) words.new }
 {
     let size = m * w;
-    areas::copy::copy_words(&rows[..size], words, 0);
-    areas::copy::copy_words(&constants[..m], words, size);
+    areas::copy(&rows[..size], words, 0);
+    areas::copy(&constants[..m], words, size);
 }
 
 // The room of both areas is zero again.
@@ -28,8 +28,8 @@ pub fn clear_room(m: usize, w: usize, numbers: &mut [u32], words: &mut [u64])
     ensures numbers_after { numbers.new ≡ cleared (dense_numbers m) numbers.old }
     ensures words_after { words.new ≡ cleared (dense_words m w) words.old }
 {
-    areas::zero::zero_numbers(numbers, 0, m);
-    areas::zero::zero_words(words, 0, m * w + m);
+    areas::fill(numbers, 0, m, 0);
+    areas::fill(words, 0, m * w + m, 0);
 }
 
 // The run: the answer, the solution, and the areas with their room zero.
@@ -55,7 +55,7 @@ pub fn solve(
         clear_room(m, w, numbers, words);
         return Answer::Unsolvable;
     }
-    areas::zero::zero_words(solution, 0, n);
+    areas::fill(solution, 0, n, 0);
     back_substitution(words, m, w, numbers, rank, solution);
     clear_room(m, w, numbers, words);
     Answer::Solved

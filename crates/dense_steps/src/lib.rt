@@ -12,8 +12,8 @@ pub fn swap_rows(words: &mut [u64], m: usize, w: usize, word: usize, i: usize, j
     requires { (word ≤ w) × (i < j) × (j < m) × (m * w + m ≤ length words.old) }
     ensures { Became m w words.old (swap_rows word i j (held m w words.old)) words.new }
 {
-    areas::exchange::exchange_words(words, i * w + word, j * w + word, w - word);
-    areas::exchange::exchange_words(words, m * w + i, m * w + j, 1);
+    areas::exchange(words, i * w + word, j * w + word, w - word);
+    areas::exchange(words, m * w + i, m * w + j, 1);
 }
 
 // XORs the `n` words from index `from` on into those from index `to` on, which lie past them or before them.

@@ -39,7 +39,7 @@ pub fn sum(left: &[u32], right: &[u32], left_c: u64, right_c: u64, out: &mut [u3
         return refusal(Answer::ShortArea);
     }
     let len = merge::add_ptr(left, right, out);
-    areas::zero::zero_numbers(out, len, left.len() + right.len());
+    areas::fill(out, len, left.len() + right.len(), 0);
     Summed {
         answer: Answer::Solved,
         len,

@@ -57,8 +57,8 @@ pub fn add_ptr(left: &[u32], right: &[u32], out: &mut [u32]) -> usize
     let i = p.left;
     let j = p.right;
     let d = p.out;
-    areas::copy::copy_numbers(&left[i..], out, d);
+    areas::copy(&left[i..], out, d);
     let e = d + (left.len() - i);
-    areas::copy::copy_numbers(&right[j..], out, e);
+    areas::copy(&right[j..], out, e);
     e + (right.len() - j)
 }

@@ -12,7 +12,7 @@ pub fn sweep(numbers: &mut [u32], layout: Layout, n: usize, m: usize)
     let dense = layout.dense;
     let end = dense + m * n;
     rows::empty_rows(numbers, 0, layout.lengths, n, m);
-    areas::zero::zero_numbers(numbers, layout.lengths, dense);
+    areas::fill(numbers, layout.lengths, dense, 0);
     rows::empty_rows(numbers, dense, end + n, n, m);
-    areas::zero::zero_numbers(numbers, end, numbers.len());
+    areas::fill(numbers, end, numbers.len(), 0);
 }

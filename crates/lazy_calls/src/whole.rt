@@ -33,7 +33,7 @@ fn build(
     let layout = Layout::of(n, m, vars.len());
     let end = run_units(numbers, words, layout, n, m, stand, solution);
     sweep(numbers, layout, n, m);
-    areas::zero::zero_words(words, 0, words.len());
+    areas::fill(words, 0, words.len(), 0);
     end
 }
 

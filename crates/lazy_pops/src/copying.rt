@@ -22,7 +22,7 @@ fn copy_dense(
     requires { CopyReady n m dense e len d numbers.old words.old }
     ensures { (layout : Layout) (sys : List Equation) (s : State) → CopyAt n m layout sys s dense e len d numbers.old words.old → CopyDone n m layout sys s e numbers.new words.new }
 {
-    areas::copy::copy_within_numbers(numbers, e * n, len, dense + d * n);
+    areas::copy_within(numbers, e * n, len, dense + d * n);
     numbers[dense + (m * n + (n + d))] = len as u32;
     words[m + d] = words[e];
 }

@@ -1,7 +1,6 @@
 // The work areas of lazy elimination, and how they are set up.
 #![tactic(auto)]
 
-use areas::{copy, zero};
 
 mod lists;
 mod load;
@@ -88,7 +87,7 @@ fn setup_numbers(n: usize, m: usize, starts: &[u32], vars: &[u32], numbers: &mut
     ensures by_index_2 { (constants : List ℕ) → Fits n m starts.now vars.now constants → numbers.new ≡ numbers_of n (equations m starts.now vars.now constants) (start n (equations m starts.now vars.now constants)) ++ drop (lazy_numbers n m (length vars.now)) numbers.old }
 {
     let t = vars.len();
-    zero::zero_numbers(numbers, 0, answers::lazy_numbers(n, m, t));
+    areas::fill(numbers, 0, answers::lazy_numbers(n, m, t), 0);
     let at = Layout::of(n, m, t);
     let lengths = at.lengths;
     let begins = at.starts;
@@ -122,8 +121,8 @@ pub fn setup(
     ensures numbers_after { numbers.new ≡ numbers_of n (equations m starts.now vars.now constants.now) (start n (equations m starts.now vars.now constants.now)) ++ drop (lazy_numbers n m (length vars.now)) numbers.old }
     ensures words_after { words.new ≡ words_of (equations m starts.now vars.now constants.now) (start n (equations m starts.now vars.now constants.now)) ++ drop (lazy_words m) words.old }
 {
-    zero::zero_words(words, 0, answers::lazy_words(m));
-    copy::copy_words(constants, words, 0);
+    areas::fill(words, 0, answers::lazy_words(m), 0);
+    areas::copy(constants, words, 0);
     let first = setup_numbers(n, m, starts, vars, numbers);
     Stand {
         variables: n,

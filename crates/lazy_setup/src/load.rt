@@ -7,7 +7,6 @@ ghost use Rattle.system.specs.Fits.{Fits};
 ghost use Rattle.lazy_setup.specs.Area.{rows_of};
 ghost use Rattle.lazy_setup.specs.Tables.{spans, firsts};
 
-use areas::copy;
 
 // Copies the variables of each equation into its row of n numbers; the rows begin at 0 and hold zeros. The constants are not read.
 pub fn load_rows(n: usize, m: usize, starts: &[u32], vars: &[u32], numbers: &mut [u32])
@@ -18,7 +17,7 @@ pub fn load_rows(n: usize, m: usize, starts: &[u32], vars: &[u32], numbers: &mut
     while i < m {
         let from = starts[i] as usize;
         let to = starts[i + 1] as usize;
-        copy::copy_numbers(&vars[from..to], numbers, i * n);
+        areas::copy(&vars[from..to], numbers, i * n);
         i += 1;
     }
 }

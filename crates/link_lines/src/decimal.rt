@@ -30,6 +30,6 @@ pub fn write_decimal(out: &mut [u8], at: usize, x: u64) -> usize
 {
     let mut digits = [0u8; 20];
     let k = lay_digits(&mut digits, x);
-    areas::copy::copy_bytes(&digits[k..], out, at);
+    areas::copy(&digits[k..], out, at);
     at + (MOST_DIGITS - k)
 }

@@ -27,7 +27,7 @@ fn write_mark(out: &mut [u8], at: usize) -> usize
     ensures out_after { out.new ≡ put at mark_text out.old }
 {
     let mark: [u8; 4] = [76, 78, 75, SPACE];
-    areas::copy::copy_bytes(&mark, out, at);
+    areas::copy(&mark, out, at);
     at + 4
 }
 

@@ -12,8 +12,8 @@ fn exchange(j: usize, i: usize, rows: &mut [u64; 122], constants: &mut [u64; 61]
     ensures rows_after { rows.new ≡ exchanged (2 * j) (2 * i) 2 rows.old }
     ensures constants_after { constants.new ≡ exchanged j i 1 constants.old }
 {
-    exchange_words(rows, 2 * j, 2 * i, 2);
-    exchange_words(constants, j, i, 1);
+    exchange(rows, 2 * j, 2 * i, 2);
+    exchange(constants, j, i, 1);
 }
 
 // Any order of the first m equations, each as likely as another.
@@ -39,7 +39,7 @@ pub fn repeat(seed: &mut u64, m: usize, rows: &mut [u64; 122], constants: &mut [
         return 0;
     }
     let j = below(seed, m);
-    copy_within_words(rows, 2 * j, 2, 2 * m);
-    copy_within_words(constants, j, 1, m);
+    copy_within(rows, 2 * j, 2, 2 * m);
+    copy_within(constants, j, 1, m);
     m + 1
 }

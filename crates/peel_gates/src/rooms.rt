@@ -5,7 +5,7 @@ ghost use Rattle.answers.specs.Sizes.{max_variables, max_equations};
 ghost use Rattle.peel_gates.specs.Rooms.{numbers_room, bytes_room, Lent, Left};
 
 use answers::{peel_high_bytes, peel_high_numbers, peel_low_numbers};
-use areas::zero::{zero_bytes, zero_numbers};
+use areas::fill;
 
 pub fn numbers_room(high: bool, n: usize, m: usize) -> usize
     requires { (n ≤ max_variables) × (m ≤ max_equations) }
@@ -32,8 +32,8 @@ pub fn empty_graph(n: usize, numbers: &mut [u32], bytes: &mut [u8])
     requires { (n ≤ length numbers.old) × (n ≤ length bytes.old) }
     ensures { (numbers.new ≡ cleared n numbers.old) × (bytes.new ≡ cleared n bytes.old) }
 {
-    zero_numbers(numbers, 0, n);
-    zero_bytes(bytes, 0, n);
+    fill(numbers, 0, n, 0);
+    fill(bytes, 0, n, 0);
 }
 
 // Zeroes the room of both areas.
@@ -41,6 +41,6 @@ pub fn clear_room(high: bool, n: usize, m: usize, numbers: &mut [u32], bytes: &m
     requires { Lent high n m numbers.old bytes.old }
     ensures { Left high n m numbers.old bytes.old numbers.new bytes.new }
 {
-    zero_numbers(numbers, 0, numbers_room(high, n, m));
-    zero_bytes(bytes, 0, bytes_room(high, n, m));
+    fill(numbers, 0, numbers_room(high, n, m), 0);
+    fill(bytes, 0, bytes_room(high, n, m), 0);
 }

@@ -3,7 +3,7 @@ ghost use Rattle.std.specs.Prelude.{◌≡◌};
 ghost use Rattle.peel_walks.specs.Walks.{Begins, PeelEnds};
 ghost use Rattle.peel_parts.specs.Parts.{GraphBuilt, PeelAsks, FillAsks, cells_after, SettleAsks, GraphAsks, Says, Past, ran_says};
 
-use areas::zero::zero_words;
+use areas::fill;
 use peel_gates::ends::{Peeling, ended};
 use peel_gates::rooms::empty_graph;
 use peel_turns::visiting::preload;
@@ -51,7 +51,7 @@ pub fn fill_cells(
     if count < m {
         return;
     }
-    zero_words(solution, 0, n);
+    fill(solution, 0, n, 0);
     assign(edges, high, n, count, solution, numbers, bytes);
 }
 

@@ -64,9 +64,9 @@ fn add_ptr_in(
     let i = m.left;
     let j = m.right;
     let d = m.out;
-    areas::copy::copy_within_numbers(area, p + i, li - i, s + d);
+    areas::copy_within(area, p + i, li - i, s + d);
     let e = d + (li - i);
-    areas::copy::copy_within_numbers(area, q + j, lj - j, s + e);
+    areas::copy_within(area, q + j, lj - j, s + e);
     e + (lj - j)
 }
 
@@ -91,10 +91,10 @@ pub fn add_into(
     ensures area_after { area.new ≡ put p (padded n (row_sum area.old p li q lj)) area.old }
 {
     let len = add_ptr_in(area, n, p, li, q, lj, s);
-    areas::copy::copy_within_numbers(area, s, len, p);
+    areas::copy_within(area, s, len, p);
     // No more is zeroed than the old row and the sum have written.
     let top = larger(li, len);
-    areas::zero::zero_numbers(area, p + len, p + top);
-    areas::zero::zero_numbers(area, s, s + len);
+    areas::fill(area, p + len, p + top, 0);
+    areas::fill(area, s, s + len, 0);
     len
 }

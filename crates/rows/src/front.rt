@@ -59,7 +59,7 @@ fn exchange_some(numbers: &mut [u32], p: usize, q: usize, room: usize) -> usize
     ensures { Exchanged numbers.old p q 1 room numbers.new result }
 {
     if room < 32 {
-        areas::exchange::exchange_numbers(numbers, p, q, 1);
+        areas::exchange(numbers, p, q, 1);
         return 1;
     }
     exchange_thirty_two(numbers, p, q);

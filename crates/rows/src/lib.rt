@@ -17,8 +17,8 @@ pub fn clear(numbers: &mut [u32], words: &mut [u64], n: usize, m: usize)
     ensures numbers_after { numbers.new ≡ cleared (row_numbers n m) numbers.old }
     ensures words_after { words.new ≡ cleared (row_words m) words.old }
 {
-    areas::zero::zero_numbers(numbers, 0, m * n + n + m);
-    areas::zero::zero_words(words, 0, m);
+    areas::fill(numbers, 0, m * n + n + m, 0);
+    areas::fill(words, 0, m, 0);
 }
 
 // The `m` rows from index `at` on become zeros: of each only as many numbers are written as its length, from index `lengths` on, says.
@@ -30,7 +30,7 @@ pub fn empty_rows(numbers: &mut [u32], at: usize, lengths: usize, n: usize, m: u
     while i < m {
         let row = at + i * n;
         let len = numbers[lengths + i] as usize;
-        areas::zero::zero_numbers(numbers, row, row + len);
+        areas::fill(numbers, row, row + len, 0);
         i += 1;
     }
 }
@@ -43,8 +43,8 @@ pub fn empty(numbers: &mut [u32], words: &mut [u64], n: usize, m: usize)
 {
     let lens = m * n + n;
     empty_rows(numbers, 0, lens, n, m);
-    areas::zero::zero_numbers(numbers, lens, lens + m);
-    areas::zero::zero_words(words, 0, m);
+    areas::fill(numbers, lens, lens + m, 0);
+    areas::fill(words, 0, m, 0);
 }
 
 // Row `i`, which has no variables, becomes the equation of these variables and this constant.
@@ -63,7 +63,7 @@ pub fn store_row(
     ensures { Became n m numbers.old words.old (set (rows_of n m numbers.old words.old) i (eqn vars.now c)) numbers.new words.new }
 {
     let lens = m * n + n;
-    areas::copy::copy_numbers(vars, numbers, i * n);
+    areas::copy(vars, numbers, i * n);
     numbers[lens + i] = vars.len() as u32;
     words[i] = c;
 }

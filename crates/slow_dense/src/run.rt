@@ -36,7 +36,7 @@ pub fn solve(
         return Answer::Unsolvable;
     }
     // what is no pivot stays 0
-    areas::zero::zero_words(solution, 0, n);
+    areas::fill(solution, 0, n, 0);
     read_off(words, m, w, numbers, rank, solution);
     clear_room(m, w, numbers, words);
     Answer::Solved

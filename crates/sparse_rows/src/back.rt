@@ -81,7 +81,7 @@ pub fn finish_rows(
     if any_unsolvable(numbers, words, n, m, d) {
         return Reduction::Unsolvable;
     }
-    areas::zero::zero_words(solution, 0, n);
+    areas::fill(solution, 0, n, 0);
     back_substitution(numbers, words, n, m, d, solution);
     Reduction::Reduced
 }

@@ -10,7 +10,7 @@ returns : tie.Need-returns
 returns c =
     let hi : c.args.i < c.args.m = omega (arith, c.requires) in
     swapped_became c.args.m c.args.w c.args.words.now c.requires.3 c.args.word c.args.i c.args.j c.requires.0 hi c.requires.2 c.requires.1 _ _
-    c.exchange_words.ensures c.exchange_words-2.ensures
+    c.exchange.ensures c.exchange-2.ensures
 
 pub swap_rows_spec : {M : Type 1} → statement M
 swap_rows_spec =
@@ -21,11 +21,11 @@ swap_rows_spec =
     (λ c. let h = two_rows c.args.i c.args.j c.args.m c.args.w c.requires.1 c.requires.2 in search rules)  -- overflow_mul-j
     (λ c. let h = two_rows c.args.i c.args.j c.args.m c.args.w c.requires.1 c.requires.2 in search rules)  -- overflow_add-j
     (λ c. search rules)  -- overflow_sub-w
-    (λ c κs. let h = two_rows c.args.i c.args.j c.args.m c.args.w c.requires.1 c.requires.2 in search rules)  -- exchange_words-requires
+    (λ c κs. let h = two_rows c.args.i c.args.j c.args.m c.args.w c.requires.1 c.requires.2 in search rules)  -- exchange-requires
     (λ c. search rules)  -- overflow_mul-m
     (λ c. search rules)  -- overflow_add-m
     (λ c. search rules)  -- overflow_mul-m-2
     (λ c. search rules)  -- overflow_add-m-2
-    (λ c κs. search rules)  -- exchange_words-requires-2
+    (λ c κs. search rules)  -- exchange-requires-2
     (λ c. search rules)  -- shape_of-words
     returns)

@@ -63,7 +63,7 @@ unfolding sum_call
 returns_6 c =
     let g = c.add_ptr-len.ensures in
     let shared = common_half (left c.before.before.before.before.before.before) (right c.before.before.before.before.before.before) _ (rises_increasing _ (left_rises c.before.before.before.before.before.before.before.before.before.before.before)) (rises_increasing _ (right_rises c.before.before.before.before.before.before.before.before.before)) refl in
-    simp (settle_front (sym_diff (left c.before.before.before.before.before.before) (right c.before.before.before.before.before.before)) _ (length (left c.before.before.before.before.before.before) + length (right c.before.before.before.before.before.before)) (omega (arith, sum_short c.before.before.before.before.before.before, c.if-out-left.false)) g.0 g.1 c.zero_numbers.ensures, g.0, shared, le-leb _ _ c.if-left-gt-MAX_SUMMED.false, le-leb _ _ c.if-right-gt-MAX_SUMMED.false, left_rises c.before.before.before.before.before.before.before.before.before.before.before, right_rises c.before.before.before.before.before.before.before.before.before, le-leb _ _ c.if-out-left.false) sum_tells
+    simp (settle_front (sym_diff (left c.before.before.before.before.before.before) (right c.before.before.before.before.before.before)) _ (length (left c.before.before.before.before.before.before) + length (right c.before.before.before.before.before.before)) (omega (arith, sum_short c.before.before.before.before.before.before, c.if-out-left.false)) g.0 g.1 c.fill.ensures, g.0, shared, le-leb _ _ c.if-left-gt-MAX_SUMMED.false, le-leb _ _ c.if-right-gt-MAX_SUMMED.false, left_rises c.before.before.before.before.before.before.before.before.before.before.before, right_rises c.before.before.before.before.before.before.before.before.before, le-leb _ _ c.if-out-left.false) sum_tells
 
 pub sum_spec : {M : Type 1} → statement M
 sum_spec =
@@ -84,7 +84,7 @@ sum_spec =
     returns_5
     (λ c κs. search rules)  -- add_ptr-len-requires
     (λ c. search rules)  -- overflow_add-left-2
-    (λ c κs. let h = sum_short c.before.before.before in search rules)  -- zero_numbers-requires
+    (λ c κs. let h = sum_short c.before.before.before in search rules)  -- fill-requires
     (λ c. search rules)  -- overflow_add-result
     (λ c. omega (arith, sum_short c.before.before.before.before.before.before, c.add_ptr-len.ensures.0))  -- overflow_sub-result
     (λ c. search rules)  -- shape_of-out

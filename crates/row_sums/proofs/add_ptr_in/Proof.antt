@@ -14,15 +14,15 @@ start m = m.before.before.before
 ends : (m : tie.After-merge_in-m) → Rests (start m).args.n (start m).args.li (start m).args.lj m.merge_in-m.result.left m.merge_in-m.result.right m.merge_in-m.result.out
 ends m = rests (start m).requires m.merge_in-m.ensures.0
 
-copy_within_numbers_requires : tie.Need-copy_within_numbers-requires
+copy_within_numbers_requires : tie.Need-copy_within-requires
 copy_within_numbers_requires c κs = let h = ends c.before.before.before in (omega arith, omega arith, inl (omega arith))
 
-copy_within_numbers_requires_2 : tie.Need-copy_within_numbers-requires-2
+copy_within_numbers_requires_2 : tie.Need-copy_within-requires-2
 copy_within_numbers_requires_2 c κs = let h = ends c.before.before.before.before.before.before.before in (omega arith, omega arith, inl (omega arith))
 
 returns : tie.Need-returns
 returns c =
-    let g = gather_rows (start c.before.before.before.before.before.before.before.before.before.before).requires c.merge_in-m.ensures.0 c.merge_in-m.ensures.1 c.copy_within_numbers.ensures c.copy_within_numbers-2.ensures in
+    let g = gather_rows (start c.before.before.before.before.before.before.before.before.before.before).requires c.merge_in-m.ensures.0 c.merge_in-m.ensures.1 c.copy_within.ensures c.copy_within-2.ensures in
     let h = ends c.before.before.before.before.before.before.before.before.before.before in
     (g.0, (h.fits, g.1))
 

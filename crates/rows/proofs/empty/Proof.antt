@@ -14,8 +14,8 @@ empty_spec =
     (λ c. search rules)  -- overflow_add-lens
     (λ c κs. drawn_padded c.requires)  -- empty_rows-requires
     (λ c. search rules)  -- overflow_add-lens-2
-    (λ c κs. search rules)  -- zero_numbers-requires
-    (λ c κs. search rules)  -- zero_words-requires
+    (λ c κs. search rules)  -- fill-requires
+    (λ c κs. search rules)  -- fill-requires
     (λ c. search rules)  -- shape_of-numbers
     (λ c. search rules)  -- shape_of-words
-    (λ c. (emptied c.requires _ _ c.empty_rows.ensures c.zero_numbers.ensures, zeroed_cleared _ _ _ c.zero_words.ensures)))
+    (λ c. (emptied c.requires _ _ c.empty_rows.ensures c.fill.ensures, zeroed_cleared _ _ _ c.fill.ensures)))

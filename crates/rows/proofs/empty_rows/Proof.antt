@@ -33,11 +33,11 @@ cast_len c = let r = row_here c.loop-i.invariant c.loop-i-test.true in omega (ar
 add_zero_numbers : tie.Need-overflow_add-row-in-loop-i invariant_loop decreases_loop
 add_zero_numbers c = let r = row_here c.loop-i.invariant c.loop-i-test.true in omega arith
 
-zero_numbers_requires : tie.Need-zero_numbers-requires invariant_loop decreases_loop
+zero_numbers_requires : tie.Need-fill-requires invariant_loop decreases_loop
 zero_numbers_requires c κs = let r = row_here c.loop-i.invariant c.loop-i-test.true in (omega arith, omega arith)
 
 loop_again : tie.Need-loop-i-preserved invariant_loop decreases_loop
-loop_again c = rw c.zero_numbers.ensures (emptying_turn c.loop-i.invariant c.loop-i-test.true)
+loop_again c = rw c.fill.ensures (emptying_turn c.loop-i.invariant c.loop-i-test.true)
 
 pub empty_rows_spec : {M : Type 1} → statement M
 empty_rows_spec =

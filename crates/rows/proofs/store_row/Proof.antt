@@ -13,7 +13,7 @@ store_row_spec =
     (λ c. search rules)  -- overflow_mul-lens
     (λ c. search rules)  -- overflow_add-lens
     (λ c. let h = row_before c.args.i c.args.m c.args.n c.requires.0.1 in record { fits = omega (arith, c.requires.0.0.numbers_room) })  -- overflow_mul-i
-    (λ c κs. store_fits c.requires.0.0 c.args.i c.requires.0.1 c.args.vars.now c.requires.1.1)  -- copy_numbers-requires
+    (λ c κs. store_fits c.requires.0.0 c.args.i c.requires.0.1 c.args.vars.now c.requires.1.1)  -- copy-requires
     (λ c. let h = store_short c.requires.0.0 c.args.i c.requires.0.1 c.args.vars.now c.requires.1.1 in omega (arith, c.requires.0.2))  -- overflow_cast-numbers
     (λ c. search rules)  -- overflow_add-numbers
     (λ c. search rules)  -- offset_bounds-numbers-lens
@@ -22,4 +22,4 @@ store_row_spec =
     (λ c. search rules)  -- bounds-words-i
     (λ c. search rules)  -- shape_of-numbers
     (λ c. search rules)  -- shape_of-words
-    (λ c. store_done c.requires.0.0 c.args.i c.requires.0.1 c.args.vars.now c.requires.1.1 _ _ c.requires.1.0 c.copy_numbers.ensures))
+    (λ c. store_done c.requires.0.0 c.args.i c.requires.0.1 c.args.vars.now c.requires.1.1 _ _ c.requires.1.0 c.copy.ensures))

@@ -8,10 +8,10 @@ pub clear_room_spec : {M : Type 1} → statement M
 clear_room_spec =
     tie.close
     (tie.spec
-    (λ c κs. search rules)  -- zero_numbers-requires
+    (λ c κs. search rules)  -- fill-requires
     (λ c. search rules)  -- overflow_mul-m
     (λ c. search rules)  -- overflow_add-m
-    (λ c κs. search rules)  -- zero_words-requires
+    (λ c κs. search rules)  -- fill-requires
     (λ c. search rules)  -- shape_of-numbers
     (λ c. search rules)  -- shape_of-words
-    (λ c. (zeroed_cleared _ _ _ c.zero_numbers.ensures, zeroed_cleared _ _ _ c.zero_words.ensures)))
+    (λ c. (zeroed_cleared _ _ _ c.fill.ensures, zeroed_cleared _ _ _ c.fill.ensures)))

@@ -12,9 +12,9 @@ load_spec =
     tie.close
     (tie.spec
     (λ c. search rules)  -- overflow_mul-size
-    (λ c. sym (length-take-le (c.args.m * c.args.w) c.args.rows.now c.requires.0))  -- slice_bounds-copy_words-end
-    (λ c κs. let e = length-take-le (c.args.m * c.args.w) c.args.rows.now c.requires.0 in search rules)  -- copy_words-requires
-    (λ c. sym (length-take-le c.args.m c.args.constants.now c.requires.1))  -- slice_bounds-copy_words-end-2
-    (λ c κs. let e = length-take-le c.args.m c.args.constants.now c.requires.1 in search rules)  -- copy_words-requires-2
+    (λ c. sym (length-take-le (c.args.m * c.args.w) c.args.rows.now c.requires.0))  -- slice_bounds-copy-end
+    (λ c κs. let e = length-take-le (c.args.m * c.args.w) c.args.rows.now c.requires.0 in search rules)  -- copy-requires
+    (λ c. sym (length-take-le c.args.m c.args.constants.now c.requires.1))  -- slice_bounds-copy-end-2
+    (λ c κs. let e = length-take-le c.args.m c.args.constants.now c.requires.1 in search rules)  -- copy-requires-2
     (λ c. search rules)  -- shape_of-words
-    (λ c. loaded_became c.args.m c.args.w c.args.rows.now c.args.constants.now c.args.words.now _ _ c.requires.0 c.requires.1 c.requires.2 c.copy_words.ensures c.copy_words-2.ensures))
+    (λ c. loaded_became c.args.m c.args.w c.args.rows.now c.args.constants.now c.args.words.now _ _ c.requires.0 c.requires.1 c.requires.2 c.copy.ensures c.copy-2.ensures))

@@ -33,7 +33,7 @@ back_substitution_requires c κs =
     let a = lent c.before.before.before.before.before.before.before.before.before.before.before.before.before.before.before.before.before.before.before.before.before.before.before in
     let l = c.load.ensures in
     let e = c.eliminate-rank.ensures in
-    let z = zeroed_length c.args.n c.args.solution.now _ c.requires.1 c.zero_words.ensures in
+    let z = zeroed_length c.args.n c.args.solution.now _ c.requires.1 c.fill.ensures in
     (e.ranked, omega (arith, e, c.requires), a.few_words, omega (arith, e, l, c.requires), rw z (run_ready c.args.rows.now c.args.constants.now c.requires.0 l e))
 
 -- none was left
@@ -45,7 +45,7 @@ returns_2 c =
     rw (run_solved c.args.rows.now c.args.constants.now c.requires.0 l e (sym c.constant_left.ensures ∙ c.if-constant_left.false)) (
       refl,
       (
-        filled c.args.n _ _ c.args.solution.now _ _ c.requires.1 c.zero_words.ensures c.back_substitution.ensures,
+        filled c.args.n _ _ c.args.solution.now _ _ c.requires.1 c.fill.ensures c.back_substitution.ensures,
         (
           r.0 ∙ run_numbers c.args.rows.now c.args.constants.now c.requires.0 l e,
           r.1 ∙ run_words c.args.rows.now c.args.constants.now c.requires.0 l e,
@@ -64,7 +64,7 @@ solve_spec =
     (λ c. search rules)  -- shape_of-numbers-then-constant_left
     (λ c. search rules)  -- shape_of-words-then-constant_left
     returns
-    (λ c κs. search rules)  -- zero_words-requires
+    (λ c κs. search rules)  -- fill-requires
     back_substitution_requires
     (λ c κs. search rules)  -- clear_room-requires-2
     (λ c. search rules)  -- shape_of-solution

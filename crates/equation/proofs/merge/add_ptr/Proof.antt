@@ -12,8 +12,8 @@ returns c =
     let e = c.merge-p.ensures.0 in
     let short = length-sym_diff-le c.args.left.now c.args.right.now in (
       e.size,
-      gather c.args.out.now 0 e (omega (arith, c.requires)) c.merge-p.ensures.1 (part_from c.args.left.now c.merge-p.result.left) (omega arith) c.copy_numbers.ensures
-          (part_from c.args.right.now c.merge-p.result.right) refl c.copy_numbers-2.ensures,
+      gather c.args.out.now 0 e (omega (arith, c.requires)) c.merge-p.ensures.1 (part_from c.args.left.now c.merge-p.result.left) (omega arith) c.copy.ensures
+          (part_from c.args.right.now c.merge-p.result.right) refl c.copy-2.ensures,
     )
 
 pub add_ptr_spec : {M : Type 1} → statement M
@@ -22,17 +22,17 @@ add_ptr_spec =
     (tie.spec
     (λ c κs. search rules)  -- merge-p-requires
     (λ c. search rules)  -- offset_bounds-left-i
-    (λ c. search rules)  -- slice_bounds-copy_numbers-count
-    (λ c. search rules)  -- slice_bounds-copy_numbers-start
-    (λ c. search rules)  -- slice_bounds-copy_numbers-end
-    (λ c κs. let h = ended_short c.merge-p.ensures.0 in search rules)  -- copy_numbers-requires
+    (λ c. search rules)  -- slice_bounds-copy-count
+    (λ c. search rules)  -- slice_bounds-copy-start
+    (λ c. search rules)  -- slice_bounds-copy-end
+    (λ c κs. let h = ended_short c.merge-p.ensures.0 in search rules)  -- copy-requires
     (λ c. search rules)  -- overflow_sub-e
     (λ c. let h = ended_short c.merge-p.ensures.0 in search rules)  -- overflow_add-e
     (λ c. search rules)  -- offset_bounds-right-j
-    (λ c. search rules)  -- slice_bounds-copy_numbers-count-2
-    (λ c. search rules)  -- slice_bounds-copy_numbers-start-2
-    (λ c. search rules)  -- slice_bounds-copy_numbers-end-2
-    (λ c κs. let h = ended_short c.merge-p.ensures.0 in search rules)  -- copy_numbers-requires-2
+    (λ c. search rules)  -- slice_bounds-copy-count-2
+    (λ c. search rules)  -- slice_bounds-copy-start-2
+    (λ c. search rules)  -- slice_bounds-copy-end-2
+    (λ c κs. let h = ended_short c.merge-p.ensures.0 in search rules)  -- copy-requires-2
     (λ c. search rules)  -- overflow_sub-result
     (λ c. let h = ended_short c.merge-p.ensures.0 in search rules)  -- overflow_add-result
     (λ c. search rules)  -- shape_of-out

@@ -40,7 +40,7 @@ returns c =
       (
         c.sweep.ensures ∙ ap (λ (k : ℕ). replicate k 0) (c.numbers-2-1.given ∙ c.numbers-1.given),
         (
-          words_zero _ _ c.run_units-end.new.words _ c.zero_words.ensures refl (c.words-2-1.given ∙ c.words-1.given),
+          words_zero _ _ c.run_units-end.new.words _ c.fill.ensures refl (c.words-2-1.given ∙ c.words-1.given),
           built_count p.0 (open_at p.0 _ _ _ _ _ p.1 p.2 p.3 e.0 e.1.0 e.1.1 c.of-layout.ensures) c.run_units-end.ensures.1,
         ),
       ),
@@ -54,7 +54,7 @@ build_spec =
     of_requires
     run_units_requires
     sweep_requires
-    (λ c κs. search rules)  -- zero_words-requires
+    (λ c κs. search rules)  -- fill-requires
     same_length
     same_length_2
     same_length_3

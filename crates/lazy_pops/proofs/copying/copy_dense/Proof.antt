@@ -14,7 +14,7 @@ mul_copy_within_numbers_2 c = let b = copy_cells c.requires.at in omega arith
 add_copy_within_numbers : tie.Need-overflow_add-dense
 add_copy_within_numbers c = let b = copy_cells c.requires.at in omega arith
 
-copy_within_numbers_requires : tie.Need-copy_within_numbers-requires
+copy_within_numbers_requires : tie.Need-copy_within-requires
 copy_within_numbers_requires c κs = let b = copy_cells c.requires.at in (omega arith, omega arith, inl (omega arith))
 
 cast_numbers : tie.Need-overflow_cast-numbers
@@ -60,7 +60,7 @@ same_length_2 : tie.Need-shape_of-words
 same_length_2 c = simp length-set
 
 returns : tie.Need-returns
-returns c = λ layout sys s a. rw c.copy_within_numbers.ensures (copy_done a)
+returns c = λ layout sys s a. rw c.copy_within.ensures (copy_done a)
 
 pub copy_dense_spec : {M : Type 1} → statement M
 copy_dense_spec =

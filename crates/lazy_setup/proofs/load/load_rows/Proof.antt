@@ -21,19 +21,19 @@ shared_slice_read_to c = let h = loading_fits c.loop-i.invariant c.loop-i-test.t
 mul_copy_numbers : tie.Need-offset_bounds-vars-from invariant_loop decreases_loop
 mul_copy_numbers c = let h = loading_fits c.loop-i.invariant c.loop-i-test.true in search rules
 
-sub_copy_numbers : tie.Need-slice_bounds-copy_numbers-count invariant_loop decreases_loop
+sub_copy_numbers : tie.Need-slice_bounds-copy-count invariant_loop decreases_loop
 sub_copy_numbers c = let h = loading_fits c.loop-i.invariant c.loop-i-test.true in search rules
 
-part_copy_numbers_start : tie.Need-slice_bounds-copy_numbers-start invariant_loop decreases_loop
+part_copy_numbers_start : tie.Need-slice_bounds-copy-start invariant_loop decreases_loop
 part_copy_numbers_start c = let h = loading_fits c.loop-i.invariant c.loop-i-test.true in search rules
 
-part_copy_numbers_end : tie.Need-slice_bounds-copy_numbers-end invariant_loop decreases_loop
+part_copy_numbers_end : tie.Need-slice_bounds-copy-end invariant_loop decreases_loop
 part_copy_numbers_end c = let h = loading_fits c.loop-i.invariant c.loop-i-test.true in search rules
 
 mul_copy_numbers_2 : tie.Need-overflow_mul-i invariant_loop decreases_loop
 mul_copy_numbers_2 c = let h = loading_fits c.loop-i.invariant c.loop-i-test.true in search rules
 
-copy_numbers_requires : tie.Need-copy_numbers-requires invariant_loop decreases_loop
+copy_numbers_requires : tie.Need-copy-requires invariant_loop decreases_loop
 copy_numbers_requires c κs = let h = loading_fits c.loop-i.invariant c.loop-i-test.true in search rules
 
 add_i : tie.Need-overflow_add-i invariant_loop decreases_loop
@@ -43,7 +43,7 @@ loop_less : tie.Need-loop-i-smaller invariant_loop decreases_loop
 loop_less c = let h = loading_fits c.loop-i.invariant c.loop-i-test.true in search rules
 
 loop_again : tie.Need-loop-i-preserved invariant_loop decreases_loop
-loop_again c = loading_turn c.loop-i.invariant c.loop-i-test.true _ c.copy_numbers.ensures
+loop_again c = loading_turn c.loop-i.invariant c.loop-i-test.true _ c.copy.ensures
 
 pub load_rows_spec : {M : Type 1} → statement M
 load_rows_spec =

@@ -10,7 +10,7 @@ use Rattle.link_lines.proofs.decimal.write_decimal.Tie as tie
 returns : tie.Need-returns
 returns c = (
   ap (λ (n : ℕ). c.args.at + n) (laid_length c.lay_digits-k.ensures),
-  c.copy_bytes.ensures ∙ ap (λ (l : List ℕ). put c.args.at l c.args.out.now) (laid_part c.lay_digits-k.ensures),
+  c.copy.ensures ∙ ap (λ (l : List ℕ). put c.args.at l c.args.out.now) (laid_part c.lay_digits-k.ensures),
 )
 
 pub write_decimal_spec : {M : Type 1} → statement M
@@ -19,10 +19,10 @@ write_decimal_spec =
     (tie.spec
     (λ c. search rules)  -- slice_bounds-lay_digits-end
     (λ c κs. search rules)  -- lay_digits-k-requires
-    (λ c. search rules)  -- slice_bounds-copy_bytes-count
-    (λ c. search rules)  -- slice_bounds-copy_bytes-start
-    (λ c. search rules)  -- slice_bounds-copy_bytes-end
-    (λ c κs. search rules)  -- copy_bytes-requires
+    (λ c. search rules)  -- slice_bounds-copy-count
+    (λ c. search rules)  -- slice_bounds-copy-start
+    (λ c. search rules)  -- slice_bounds-copy-end
+    (λ c κs. search rules)  -- copy-requires
     (λ c. search rules)  -- overflow_sub-result
     (λ c. search rules)  -- overflow_add-result
     (λ c. search rules)  -- shape_of-out

@@ -2,10 +2,10 @@ use Rattle.std.proofs.Common.{inl, arith, rules}
 use Rattle.order_runs.proofs.orders.repeat.Statement.{statement}
 use Rattle.order_runs.proofs.orders.repeat.Tie as tie
 
-copy_within_words_requires : tie.Need-copy_within_words-requires
+copy_within_words_requires : tie.Need-copy_within-requires
 copy_within_words_requires c κs = (omega arith, omega arith, inl (omega arith))
 
-copy_within_words_requires_2 : tie.Need-copy_within_words-requires-2
+copy_within_words_requires_2 : tie.Need-copy_within-requires-2
 copy_within_words_requires_2 c κs = (omega arith, omega arith, inl (omega arith))
 
 pub repeat_spec : {M : Type 1} → statement M

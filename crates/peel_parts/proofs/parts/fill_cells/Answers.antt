@@ -6,5 +6,5 @@ returns-then-count-m c = not_filled c.args.high c.args.n c.args.edges.now c.args
 
 pub returns : goal.returns
 returns c =
-    all_filled c.args.high c.args.n c.args.edges.now c.args.m c.args.count c.args.solution.now c.args.numbers.now c.args.bytes.now c.zero_words.new.words c.assign.new.solution c.if-count-m.false
-    c.zero_words.ensures c.assign.ensures
+    all_filled c.args.high c.args.n c.args.edges.now c.args.m c.args.count c.args.solution.now c.args.numbers.now c.args.bytes.now c.fill.new.words c.assign.new.solution c.if-count-m.false
+    c.fill.ensures c.assign.ensures

@@ -33,7 +33,7 @@ read_off_requires : tie.Need-read_off-requires
 read_off_requires c κs =
     let l = c.load.ensures in
     let e = c.clear_columns-rank.ensures in
-    let z = zeroed_length c.args.n c.args.solution.now _ c.requires.1 c.zero_words.ensures in
+    let z = zeroed_length c.args.n c.args.solution.now _ c.requires.1 c.fill.ensures in
     (e.ranked, omega (arith, e, c.requires), omega (arith, e, l, c.requires), rw z e.pivots_below)
 
 -- none was left
@@ -45,7 +45,7 @@ returns_2 c =
     rw (slow_solved c.args.rows.now c.args.constants.now l e (sym c.constant_left.ensures ∙ c.if-constant_left.false)) (
       refl,
       (
-        slow_filled c.args.n _ c.args.solution.now _ _ c.requires.1 c.zero_words.ensures c.read_off.ensures,
+        slow_filled c.args.n _ c.args.solution.now _ _ c.requires.1 c.fill.ensures c.read_off.ensures,
         (
           r.0 ∙ slow_numbers c.args.rows.now c.args.constants.now l e,
           r.1 ∙ slow_words c.args.rows.now c.args.constants.now l e,
@@ -64,7 +64,7 @@ solve_spec =
     (λ c. search rules)  -- shape_of-numbers-then-constant_left
     (λ c. search rules)  -- shape_of-words-then-constant_left
     returns
-    (λ c κs. search rules)  -- zero_words-requires
+    (λ c κs. search rules)  -- fill-requires
     read_off_requires
     (λ c κs. search rules)  -- clear_room-requires-2
     (λ c. search rules)  -- shape_of-solution

@@ -10,7 +10,7 @@ finish_rows_spec =
     (tie.spec
     (λ c κs. search rules)  -- any_unsolvable-requires
     (λ c. finish_stop _ _ _ c.any_unsolvable.ensures c.if-any_unsolvable.true)  -- returns-then-any_unsolvable
-    (λ c κs. search rules)  -- zero_words-requires
+    (λ c κs. search rules)  -- fill-requires
     (λ c κs. (c.requires.0, search rules, search rules))  -- back_substitution-requires
     (λ c. search rules)  -- shape_of-solution
-    (λ c. finish_done _ _ _ _ _ c.any_unsolvable.ensures c.if-any_unsolvable.false (zeros_all _ _ _ c.requires.2 c.zero_words.ensures) c.back_substitution.ensures))
+    (λ c. finish_done _ _ _ _ _ c.any_unsolvable.ensures c.if-any_unsolvable.false (zeros_all _ _ _ c.requires.2 c.fill.ensures) c.back_substitution.ensures))
