@@ -1,17 +1,46 @@
 -- What the graph's calls answer and leave, outside their domain too: there the state stays.
-use Rattle.std.specs.Prelude.{◌≡◌, Bool, ◌&&◌, ◌||◌, ℕ, get_or, ltb, leb}
+use Rattle.std.specs.Prelude.{◌≡◌, Bool, ◌&&◌, ◌||◌, ℕ, Result, Ok, Err, get_or, ltb, leb}
 use Rattle.answers.specs.Calls.{pick}
 use Rattle.answers.specs.Numbers.{number_of, place_of}
-use Rattle.answers.specs.Answers.{Answer}
-use Rattle.answers.specs.Answers.{Solved, OutsideDomain}
+use Rattle.answers.specs.declared.refusal.Refusal.{Refusal}
+use Rattle.answers.specs.Answers.{Answer, Solved, OutsideDomain, answer_of, refusal_of}
+use Rattle.peeling.specs.declared.numbers.EdgeNo.{EdgeNo}
+use Rattle.peeling.specs.declared.graph.XorGraph.{XorGraph}
 use Rattle.peeling.specs.declared.graph.VertexRecord.{VertexRecord}
-use Rattle.peeling.specs.declared.graph.Added.{Added}
-use Rattle.peeling.specs.declared.graph.EdgeAndSide.{EdgeAndSide}
-use Rattle.peeling.specs.declared.graph.DegreeRead.{DegreeRead}
+use Rattle.peeling.specs.declared.graph.EdgeAndSide as code
 use Rattle.peeling.specs.Graph.{Graph, holds_vertex, degree_of, sides_of, add, overflows, remove, clear}
 
 abbrev pub empty_vertex : VertexRecord
 empty_vertex = record { edge = record { 0 = 0 }; byte = 0 }
+
+-- ---- what the calls come to, and what the code hands back comes to
+
+-- an addition's answer, and the graph's flag after it
+pub record Added : Type 0 where
+  pub answer : Answer
+  pub graph : XorGraph
+
+-- the edge and the side that are read, 0 and 0 with a refusal
+pub record EdgeAndSide : Type 0 where
+  pub answer : Answer
+  pub edge : EdgeNo
+  pub side : ℕ
+
+-- the degree that is read, 0 with a refusal
+pub record DegreeRead : Type 0 where
+  pub answer : Answer
+  pub degree : ℕ
+
+abbrev pub added_of : {A : Type 0} → Result A Refusal → XorGraph → Added
+added_of r g = record { answer = answer_of r; graph = g }
+
+abbrev pub edge_and_side_of : Result code.EdgeAndSide Refusal → EdgeAndSide
+edge_and_side_of (Ok x) = record { answer = Solved; edge = x.edge; side = x.side }
+edge_and_side_of (Err r) = record { answer = refusal_of r; edge = record { 0 = 0 }; side = 0 }
+
+abbrev pub degree_read_of : Result ℕ Refusal → DegreeRead
+degree_read_of (Ok d) = record { answer = Solved; degree = d }
+degree_read_of (Err r) = record { answer = refusal_of r; degree = 0 }
 
 pub record AddCall : Type 0 where
   pub result : Added
