@@ -1,9 +1,7 @@
 pub mod Stretch
-pub mod Behind
+pub mod Parts
+pub mod Filling
 pub mod Offsets
 pub mod Rows
 pub mod Segments
-pub mod Zeroing
-pub mod Copying
-pub mod Exchanging
 pub mod Cells

@@ -1,6 +1,10 @@
-// Lent memory: stretches of a slice, zeroed, copied and exchanged.
+// Lent memory: stretches of a slice, filled, copied and exchanged.
 #![tactic(auto)]
 
-pub mod copy;
-pub mod exchange;
-pub mod zero;
+mod copies;
+mod exchanges;
+mod fills;
+
+pub use copies::{copy, copy_within};
+pub use exchanges::exchange;
+pub use fills::fill;

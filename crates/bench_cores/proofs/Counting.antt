@@ -15,7 +15,7 @@ use Rattle.peel_rules.specs.Edges.{edge, touches, bump, degree}
 use Rattle.peel_rules.specs.Core.{pick}
 use Rattle.peel_rules.specs.Peel.{crowd, crowded_vertex}
 use Rattle.peel_rules.proofs.PeelCrowd.{lowest_is}
-use Rattle.areas.proofs.Stretch.{take-replicate}
+use Rattle.std.proofs.lemmas.List.{take-replicate}
 use Rattle.bench_cores.specs.Counted.{living, alive_of, counted}
 use Rattle.bench_cores.proofs.Living.{living_all}
 

@@ -10,7 +10,7 @@ use borrow.Author.Tests.{eqb-true, eqb-false}
 use lib.Dec.{eqb}
 use lib.ListN.{length, get_or, set, take, replicate, length-set, length-replicate}
 use lib.Seq.{length-take-le, get_or-take, take-set-lt}
-use Rattle.areas.proofs.Stretch.{take-replicate}
+use Rattle.std.proofs.lemmas.List.{take-replicate}
 use Rattle.peeling.specs.declared.numbers.Edge.{Edge}
 use Rattle.peel_rules.specs.Edges.{edge, touches, degree, side0, pivot, first, second}
 use Rattle.peel_rules.specs.Core.{Tight, pick, Within, Core}

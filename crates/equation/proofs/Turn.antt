@@ -8,18 +8,18 @@ use lib.ListN.{length, drop, get_or, set, length-append, length-drop, drop_of_le
 use lib.Seq.{drop-cons}
 use Rattle.gf2.specs.Equation.{sym_diff}
 use Rattle.gf2.proofs.SymDiff.{turn_less, turn_same, turn_more, left_ended, right_ended}
-use Rattle.areas.proofs.Copying.{Copying, copying_begin, copying_turn}
+use Rattle.areas.proofs.Cells.{Writing, writing_begin, writing_turn}
 use Rattle.equation.specs.Merging.{Ended}
 
 -- i of l and j of r are done: the first d variables of the sum stand in `out` from s on, and the sum of what is left is still to come
 pub record Merged (l r before out : List ℕ) (s i j d : ℕ) : Type 0 where
   pub in_left : i ≤ length l
   pub in_right : j ≤ length r
-  pub written : Copying (sym_diff l r) before s d out
+  pub written : Writing s (sym_diff l r) before d out
   pub to_come : drop d (sym_diff l r) ≡ sym_diff (drop i l) (drop j r)
 
 pub merged_begin : (l r before : List ℕ) (s : ℕ) → s + length (sym_diff l r) ≤ length before → Merged l r before before s 0 0 0
-merged_begin l r before s room = record { in_left = omega arith; in_right = omega arith; written = copying_begin (sym_diff l r) before s room; to_come = refl }
+merged_begin l r before s room = record { in_left = omega arith; in_right = omega arith; written = writing_begin s (sym_diff l r) before room; to_come = refl }
 
 -- x stands at place d of the sum, and xs behind it
 record NextIs (sum : List ℕ) (d x : ℕ) (xs : List ℕ) : Type 0 where
@@ -52,12 +52,12 @@ module _ {l r before out : List ℕ} {s i j d : ℕ} (w : Merged l r before out 
   pub on_less : get_or l i 0 < get_or r j 0 → Merged l r before (set out (s + d) (get_or l i 0)) s (i + 1) j (d + 1)
   on_less h =
       let n = next_less h in
-      record { in_left = omega arith; in_right = w.in_right; written = rw n.value at (copying_turn w.written n.here); to_come = n.behind }
+      record { in_left = omega arith; in_right = w.in_right; written = writing_turn _ w.written n.here (sym n.value); to_come = n.behind }
 
   pub on_more : get_or r j 0 < get_or l i 0 → Merged l r before (set out (s + d) (get_or r j 0)) s i (j + 1) (d + 1)
   on_more h =
       let n = next_more h in
-      record { in_left = w.in_left; in_right = omega arith; written = rw n.value at (copying_turn w.written n.here); to_come = n.behind }
+      record { in_left = w.in_left; in_right = omega arith; written = writing_turn _ w.written n.here (sym n.value); to_come = n.behind }
 
   -- neither is kept, and nothing is written
   pub on_both : get_or l i 0 ≡ get_or r j 0 → Merged l r before out s (i + 1) (j + 1) d
@@ -68,7 +68,7 @@ module _ {l r before out : List ℕ} {s i j d : ℕ} (w : Merged l r before out 
   ended : drop i l ++ drop j r ≡ drop d (sym_diff l r) → Ended l r i j d
   ended e =
       let k : length (drop i l ++ drop j r) ≡ length (drop d (sym_diff l r)) = ap length e in
-      let within = w.written.within in
+      let some = w.written.some in
       record {
         in_left = w.in_left;
         in_right = w.in_right;

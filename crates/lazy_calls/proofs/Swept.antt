@@ -6,8 +6,7 @@ use native.Mathlib.Nat.{add_assoc}
 use native.Mathlib.Omega.{arith}
 use lib.ListN.{length, drop, replicate, length-replicate, replicate-append-replicate}
 use Rattle.areas.specs.Stretch.{put, zeroed}
-use Rattle.areas.proofs.Behind.{put_behind}
-use Rattle.areas.proofs.Stretch.{length-put, put_all, drop-put_after}
+use Rattle.areas.proofs.Stretch.{length-put, put_all, put_then, drop-put_after}
 use Rattle.rows.specs.Padding.{PaddedRows}
 use Rattle.rows.proofs.Padding.{padded_past}
 use Rattle.lazy_setup.specs.declared.Layout.{Layout}
@@ -33,7 +32,7 @@ swept_more {d} {k} e w h g =
       within = g;
       so_far =
           ap (put k (replicate (e - k) 0)) w.so_far ∙ ap (λ (j : ℕ). put j (replicate (e - k) 0) (zeroed 0 k d)) p
-          ∙ put_behind 0 (replicate (k - 0) 0) (replicate (e - k) 0) d (omega arith)
+          ∙ put_then 0 (replicate (k - 0) 0) (replicate (e - k) 0) d (omega arith)
           ∙ ap (λ (l : List ℕ). put 0 l d) (replicate-append-replicate (k - 0) (e - k) 0 ∙ ap (λ (j : ℕ). replicate j 0) s);
     }
 

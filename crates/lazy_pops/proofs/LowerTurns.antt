@@ -10,8 +10,7 @@ use lib.ListN.{length, get_or, set, drop, length-set, length-reverse, drop_of_le
 use lib.Seq.{drop-cons}
 use Rattle.gf2.proofs.Tests.{eqb_ne}
 use Rattle.areas.specs.Stretch.{stretch, put}
-use Rattle.areas.proofs.Behind.{put_behind}
-use Rattle.areas.proofs.Stretch.{length-stretch, length-put, put-stretch, put_comm, put-put_inside, set_is_put, get_or-stretch, get_or-put, get_or-put_before}
+use Rattle.areas.proofs.Stretch.{length-stretch, length-put, put-stretch, put_comm, put_then, put-put_inside, set_is_put, get_or-stretch, get_or-put, get_or-put_before}
 use Rattle.gf2.specs.NumberLists.{keep}
 use Rattle.lazy.specs.Lazy.{lowered, pushed}
 use Rattle.lazy_pops.specs.Lowering.{but, Lowers, LowerFits, LowerOneFits, now_pushed, lowered_in, lower_one, top_after}
@@ -217,7 +216,7 @@ module _ {area₀ : List ℕ} {list count skip prio m stack top : ℕ} {area : L
         pushed_there =
             let r = room_here w in let y = i.fits.stack_last in
             let l : length (reverse i.equations) ≡ t = length-reverse i.equations ∙ i.high in
-            rw (reverse-cons f i.equations) (rw l at (put_behind stack (reverse i.equations) (f ∷ []) area₀ (omega arith)))
+            rw (reverse-cons f i.equations) (rw l at (put_then stack (reverse i.equations) (f ∷ []) area₀ (omega arith)))
 
     pub turn_on : LoweringIn area₀ list count skip prio m stack top (lower_one area prio stack t (get_or area (list + k) 0)) (k + 1) (top_after area prio t (get_or area (list + k) 0))
     turn_on = rw f_is (go (ℕ_discrete (get_or i.priority f 0) 2))

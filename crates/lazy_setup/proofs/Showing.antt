@@ -10,7 +10,7 @@ use Rattle.answers.specs.Sizes.{lazy_numbers}
 use Rattle.areas.specs.Rows.{padded}
 use Rattle.areas.specs.Stretch.{stretch, put}
 use Rattle.areas.specs.Segments.{joined, offset}
-use Rattle.areas.proofs.Stretch.{drop-replicate}
+use Rattle.std.proofs.lemmas.List.{drop-replicate}
 use Rattle.areas.proofs.Rows.{length-padded}
 use Rattle.areas.proofs.Segments.{stretch_segment, put_segment, put_joined, inside_joined}
 use Rattle.lazy_setup.specs.Layout.{sizes, Shaped}
@@ -23,9 +23,7 @@ pub record Shows (n m t : ℕ) (rest : List ℕ) (segs : List (List ℕ)) (area 
 
 pub zeros_left : (x : ℕ) (s : List ℕ) → length s ≤ x → put 0 s (replicate x 0) ≡ padded x s
 unfolding put padded
-zeros_left x s h =
-    let e : x ≡ length s + (x - length s) = omega arith in
-    ap (λ (y : ℕ). s ++ drop (0 + length s) (replicate y 0)) e ∙ ap (λ (l : List ℕ). s ++ l) (rw zero-add (drop-replicate (length s) (x - length s) 0))
+zeros_left x s h = ap (λ (l : List ℕ). s ++ l) (rw zero-add (drop-replicate (length s) x 0))
 
 map-set : (segs : List (List ℕ)) (k : ℕ) (s : List ℕ) → map (λ s. length s) (set segs k s) ≡ set (map (λ s. length s) segs) k (length s)
 map-set [] k s = refl

@@ -15,7 +15,7 @@ use Rattle.answers.specs.Numbers.{number_of, place_of}
 use Rattle.answers.specs.Answers.{Answer}
 use Rattle.answers.specs.Answers.{Solved, TooLarge, BadShape, BadEntry, WrongSolution, ShortArea, Unsolvable, CrowdedVertex, Stuck, BadFile, OutsideDomain}
 use Rattle.areas.specs.Stretch.{put, zeros}
-use Rattle.areas.proofs.Stretch.{take-replicate}
+use Rattle.std.proofs.lemmas.List.{take-replicate}
 use Rattle.link_form.specs.declared.scan.Form.TheVariants.{Malformed, Described}
 use Rattle.link_form.specs.File.{Link, peel_kind, width, header_bytes, read_rows, read_file, form_of}
 use Rattle.link_lines.specs.Lines.{header_line, value_lines}

@@ -8,8 +8,7 @@ use native.Mathlib.Omega.{arith}
 use lib.ListN.{length, take, get_or, set, length-append}
 use lib.Seq.{take-suc, take_all}
 use Rattle.areas.specs.Stretch.{put}
-use Rattle.areas.proofs.Stretch.{put_none, put_more, length-put}
-use Rattle.areas.proofs.Behind.{put_behind}
+use Rattle.areas.proofs.Stretch.{put_none, put_more, put_then, length-put}
 use Rattle.link_lines.specs.Decimal.{decimal}
 use Rattle.link_lines.specs.Lines.{space, newline, mark_text, ended, header_line, answer_line, value_lines, most_ended, most_header, most_answer}
 use Rattle.link_lines.proofs.Said.{few_digits}
@@ -31,7 +30,7 @@ told_more {before} {at} {text} {p} {out} more q then t e w h =
     let l = length-append text more in
     let a = t.ends in
     let b = t.long in
-    told_first before at (text ++ more) q then (omega arith) (w ∙ rw (a, t.stands) (put_behind at text more before t.room)) (omega arith)
+    told_first before at (text ++ more) q then (omega arith) (w ∙ rw (a, t.stands) (put_then at text more before t.room)) (omega arith)
 
 -- ---- how long a text is at most
 

@@ -10,8 +10,7 @@ use lib.ListN.{length, take, drop, set, length-set}
 use lib.Seq.{drop-drop, set-set, length-take-le, take_all}
 use Rattle.gf2.specs.Equation.{Equation}
 use Rattle.areas.specs.Stretch.{stretch, put}
-use Rattle.areas.proofs.Stretch.{put_none, put_more, put-put_over, length-put, set_is_put}
-use Rattle.areas.proofs.Behind.{put_behind}
+use Rattle.areas.proofs.Stretch.{put_none, put_more, put_then, put-put_over, length-put, set_is_put}
 use Rattle.system.specs.Fits.{listed_in}
 use Rattle.link_form.specs.Bytes.{little, field, fields}
 use Rattle.link_form.specs.File.{max_bytes, count_bytes, count, row_bytes, row, read_rows}
@@ -117,7 +116,7 @@ number_more before area s i v e l h =
 list_more : (before area s more : List ℕ) (t : ℕ) → area ≡ put 0 s before → length s ≡ t → t ≤ length before → put t more area ≡ put 0 (s ++ more) before
 list_more before area s more t e l h =
     let z : 0 + length s ≡ length s = zero-add (length s) in
-    rw (e, ← l) (rw z at (put_behind 0 s more before (omega arith)))
+    rw (e, ← l) (rw z at (put_then 0 s more before (omega arith)))
 
 -- i of m rows are laid out: they end at p and list t variables
 pub record Loading (bytes : List ℕ) (kind w m : ℕ) (rows : List Equation) (starts₀ vars₀ constants₀ starts vars constants : List ℕ) (p t i : ℕ) : Type 0 where

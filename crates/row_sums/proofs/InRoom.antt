@@ -45,7 +45,7 @@ module _ {area₀ area : List ℕ} {n p li q lj s i j d : ℕ} (m : MergingIn ar
   as_it_was : (k : ℕ) → k < s → get_or area k 0 ≡ get_or area₀ k 0
   as_it_was k h =
       let f = m.fits in
-      ap (λ (l : List ℕ). get_or l k 0) m.merged.written.so_far
+      ap (λ (l : List ℕ). get_or l k 0) m.merged.written.shown
       ∙ get_or-put_before s k 0 (take d (row_sum area₀ p li q lj)) area₀ h (omega arith)
 
   read_left : get_or area (p + i) 0 ≡ get_or (stretch p li area₀) i 0

@@ -6,7 +6,8 @@ use native.Mathlib.Omega.{arith}
 use lib.ListN.{length, replicate, length-replicate}
 use Rattle.areas.specs.Stretch.{stretch, put, zeroed}
 use Rattle.areas.specs.Rows.{padded}
-use Rattle.areas.proofs.Stretch.{take-stretch, take-replicate, length-put, stretch-put, put_comm, put-put_over, put-stretch}
+use Rattle.std.proofs.lemmas.List.{take-replicate}
+use Rattle.areas.proofs.Stretch.{take-stretch, length-put, stretch-put, put_comm, put-put_over, put-stretch}
 use Rattle.areas.proofs.Rows.{length-padded, put-padded}
 use Rattle.equation.proofs.Settle.{zeroed_behind}
 use Rattle.row_sums.specs.AddFits.{AddFits}

@@ -8,10 +8,9 @@ use lib.ListN.{length, get_or, take, drop, replicate, length-append, length-repl
 use lib.Seq.{get_or-append-add, get_or-drop, drop-drop}
 use Rattle.areas.specs.Stretch.{stretch, put, zeroed}
 use Rattle.areas.specs.Rows.{padded, laid, Narrow}
-use Rattle.areas.proofs.Behind.{put_behind}
 use Rattle.areas.proofs.Offsets.{row_before, row_next}
 use Rattle.areas.proofs.Rows.{padded-nil, put-padded, length_laid, stretch_laid, stretch_row_all}
-use Rattle.areas.proofs.Stretch.{length-stretch, length-put, put_none, stretch-put_after, get_or-put_after, stretch_agree, get_or_agree}
+use Rattle.areas.proofs.Stretch.{length-stretch, length-put, put_none, put_then, stretch-put_after, get_or-put_after, stretch_agree, get_or_agree}
 use Rattle.gf2.specs.Equation.{Equation, eqn}
 use Rattle.rows.specs.Padding.{PaddedRows}
 use Rattle.rows.specs.Picture.{vars_of, length_of}
@@ -130,7 +129,7 @@ module _ {at lengths n m : ℕ} {d : List ℕ} {i : ℕ} {out : List ℕ} (w : E
       let s : (at + i * n - at) + n ≡ at + (i + 1) * n - at = let y = row_next i n in omega arith in
       let all : put (at + i * n) (replicate n 0) out ≡ zeroed at (at + (i + 1) * n) d =
       ap (put (at + i * n) (replicate n 0)) w.so_far ∙ ap (λ (p : ℕ). put p (replicate n 0) (zeroed at (at + i * n) d)) o
-      ∙ put_behind at (replicate (at + i * n - at) 0) (replicate n 0) d (omega arith)
+      ∙ put_then at (replicate (at + i * n - at) 0) (replicate n 0) d (omega arith)
       ∙ ap (λ (t : List ℕ). put at t d) (replicate-append-replicate (at + i * n - at) n 0 ∙ ap (λ (j : ℕ). replicate j 0) s) in
       record {
         some = omega arith;

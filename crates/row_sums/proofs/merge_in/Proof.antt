@@ -25,12 +25,12 @@ low_2 c = more_low c.loop-i.invariant (search rules) (omega (arith, ltb-true)) c
 returns : tie.Need-returns-else-j-lj invariant_loop decreases_loop
 returns c =
     let m = c.loop-i.invariant in
-    (right_over m (c.if-j-lj.false), m.merged.written.so_far)
+    (right_over m (c.if-j-lj.false), m.merged.written.shown)
 
 returns_2 : tie.Need-returns-after-loop-i invariant_loop decreases_loop
 returns_2 c =
     let m = c.loop-i.invariant in
-    (left_over m c.loop-i-test.false, m.merged.written.so_far)
+    (left_over m c.loop-i-test.false, m.merged.written.shown)
 
 pub merge_in_spec : {M : Type 1} → statement M
 merge_in_spec =

@@ -30,12 +30,12 @@ low_2 c =
 returns : tie.Need-returns-else-j-right invariant_loop decreases_loop
 returns c =
     let w = c.loop-i.invariant in
-    (right_done w (c.if-j-right.false), w.written.so_far)
+    (right_done w (c.if-j-right.false), w.written.shown)
 
 returns_2 : tie.Need-returns-after-loop-i invariant_loop decreases_loop
 returns_2 c =
     let w = c.loop-i.invariant in
-    (left_done w c.loop-i-test.false, w.written.so_far)
+    (left_done w c.loop-i-test.false, w.written.shown)
 
 pub merge_spec : {M : Type 1} → statement M
 merge_spec =

@@ -1,7 +1,7 @@
 use mathlib.Core.Path.{sym, ap}
 use mathlib.Core.List.{List}
 use Prim.Native.Nat.{ℕ}
-use Rattle.areas.proofs.Stretch.{take-replicate}
+use Rattle.std.proofs.lemmas.List.{take-replicate}
 use Rattle.link_form.specs.Lent.{most_variables, file_rows}
 use Rattle.link_lines.specs.Outcomes.{outcome_text}
 use Rattle.link_lines.proofs.Telling.{retold}
