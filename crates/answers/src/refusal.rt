@@ -121,6 +121,15 @@ pub fn place<T, E: Numbered>(answer: &Result<T, E>) -> usize
     }
 }
 
+// Hands back the number, and writes the place that goes with it through `told`: what a call tells a program in another language.
+pub fn tell<T, E: Numbered>(answer: &Result<T, E>, told: &mut usize) -> u32
+    ensures value { result ≡ number_of (answer_by E.answer answer.now) }
+    ensures place_after { told.new ≡ place_of (answer_by E.answer answer.now) }
+{
+    *told = place(answer);
+    number(answer)
+}
+
 // What a solver's call answers, and how many variables cancelled in the sums that it made.
 #[derive(Clone, Copy, PartialEq, Debug)]
 pub struct Built {
