@@ -4,7 +4,7 @@ use mathlib.Core.List.{List, [], ◌∷◌}
 use Prim.Native.Nat.{ℕ}
 use lib.ListN.{get_or}
 use Rattle.std.specs.Prelude.{Result, Ok, Err}
-use Rattle.answers.specs.Answers.{Answer, refusal_of, answer_of}
+use Rattle.answers.specs.Answers.{Answer, Solved, Rules, Kept, Broken, refusal_of, answer_of, rules_of}
 use Rattle.answers.specs.Numbers.{number_of, place_of}
 use Rattle.answers.specs.Calls.{Call}
 use Rattle.answers.specs.Reported.{reported}
@@ -79,3 +79,16 @@ pub built_determined : (call : Call) (total : ℕ) {solution solution' numbers n
 built_determined call total built built' p q =
     let d = result_determined call built.answer built'.answer p.0 q.0 in
     ((λ i. record { answer = d.0 i; cancelled = (p.1 ∙ sym q.1) i }), d.1, d.2, d.3)
+
+rules_answer : Rules → Answer
+rules_answer Kept = Solved
+rules_answer (Broken answer) = answer
+
+rules_answer_of : (r : Result (Unit {0}) Refusal) → rules_answer (rules_of r) ≡ answer_of r
+unfolding rules_answer
+rules_answer_of (Ok x) = refl
+rules_answer_of (Err refusal) = refl
+
+-- what a result says of the rules determines it
+pub same_rules : (r s : Result (Unit {0}) Refusal) → rules_of r ≡ rules_of s → r ≡ s
+same_rules r s e = same_result r s (sym (rules_answer_of r) ∙ ap rules_answer e ∙ rules_answer_of s)
