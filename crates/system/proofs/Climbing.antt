@@ -1,39 +1,17 @@
--- Starts that keep their rule: the walk that tests them, and what they are then.
+-- Starts that keep their rule: what they are then, and which tests say so.
 use mathlib.Core.Path.{◌≡◌, refl, sym, ◌∙◌}
-use mathlib.Core.Bool.{true, false, ◌&&◌}
+use mathlib.Core.Bool.{Bool, true, false, ◌&&◌, false≢true}
 use mathlib.Core.List.{List, [], ◌∷◌}
 use Prim.Native.Nat.{ℕ, zero, suc, ◌+◌, ◌<◌, ◌≤◌, zero-le, suc-le-suc}
 use native.Mathlib.Nat.{not-suc-le-zero, le_of_suc-le-suc}
 use native.Mathlib.Numerals.{add-one}
 use native.Mathlib.Omega.{arith}
-use borrow.Author.Tests.{le-leb, lt-leb, leb-true, eq-eqb, eqb-true}
-use lib.ListN.{length, drop, get_or, drop_of_length-le}
-use lib.Seq.{drop-cons}
+use borrow.Author.Tests.{le-leb, leb-true, eq-eqb, eqb-true}
+use lib.ListN.{length, get_or}
 use lib.Dec.{eqb, leb}
+use Rattle.std.specs.List.Sorted.{IsNonDecreasing}
 use Rattle.system.specs.System.{climbs, starts_kept}
 use Rattle.gf2.proofs.Both.{both}
-
--- ---- the walk: i starts are passed, the last of them is p, and all climb where the rest climbs from p
-
-pub record Climbing (t : ℕ) (starts : List ℕ) (p i : ℕ) : Type 0 where
-  pub within : i ≤ length starts
-  pub rest : climbs 0 t starts ≡ climbs p t (drop i starts)
-
-pub climbing_begin : (t : ℕ) (starts : List ℕ) → Climbing t starts 0 0
-climbing_begin t starts = record { within = zero-le; rest = refl }
-
-pub climbing_turn : {t : ℕ} {starts : List ℕ} {p i : ℕ} → Climbing t starts p i → i < length starts → p ≤ get_or starts i 0 → Climbing t starts (get_or starts i 0) (i + 1)
-unfolding climbs
-climbing_turn {t} {starts} {p} {i} w h k =
-    record { within = omega arith; rest = w.rest ∙ rw (add-one, drop-cons starts i 0 h, le-leb p (get_or starts i 0) k) }
-
-pub climbing_stop : {t : ℕ} {starts : List ℕ} {p i : ℕ} → Climbing t starts p i → i < length starts → get_or starts i 0 < p → false ≡ climbs 0 t starts
-unfolding climbs
-climbing_stop {t} {starts} {p} {i} w h k = sym (w.rest ∙ rw (drop-cons starts i 0 h, lt-leb p (get_or starts i 0) k))
-
-pub climbing_end : {t : ℕ} {starts : List ℕ} {p i : ℕ} → Climbing t starts p i → length starts ≤ i → eqb p t ≡ climbs 0 t starts
-unfolding climbs
-climbing_end {t} {starts} w h = sym (w.rest ∙ rw (drop_of_length-le starts h))
 
 -- ---- what starts are that keep their rule
 
@@ -102,3 +80,26 @@ pub starts_kept_back : (m t : ℕ) (starts : List ℕ) → length starts ≡ m +
 unfolding starts_kept
 starts_kept_back m t starts l z f e =
     rw (eq-eqb (length starts) (m + 1) l, eq-eqb (get_or starts 0 0) 0 z) (kept_back m t starts l f e)
+
+-- ---- the tests
+
+pub starts_refused : (m t : ℕ) (starts : List ℕ) → (Starts m t starts → ⊥) → false ≡ starts_kept m t starts
+starts_refused m t starts f = go (starts_kept m t starts) (λ e. f (starts_sound m t starts e))
+  where
+    go : (b : Bool) → (b ≡ true → ⊥) → false ≡ b
+    go true g = absurd (g refl)
+    go false g = refl
+
+-- m + 1 starts that begin at 0 and never fall: kept where the last is t
+pub starts_decided : (m t : ℕ) (starts : List ℕ) → length starts ≡ m + 1 → get_or starts 0 0 ≡ 0 → IsNonDecreasing starts → eqb (get_or starts m 0) t ≡ starts_kept m t starts
+starts_decided m t starts l z s = go (eqb (get_or starts m 0) t) refl
+  where
+    go : (b : Bool) → eqb (get_or starts m 0) t ≡ b → b ≡ starts_kept m t starts
+    go true q = sym (starts_kept_back m t starts l z (λ i h. s i (i + 1) 0 (omega arith) (omega arith)) (eqb-true (get_or starts m 0) t q))
+    go false q = starts_refused m t starts (λ k. false≢true (sym q ∙ eq-eqb (get_or starts m 0) t k.last))
+
+pub starts_unsorted : (m t : ℕ) (starts : List ℕ) → length starts ≡ m + 1 → (k : ℕ) × (k + 1 < length starts) × ((d : ℕ) → get_or starts (k + 1) d < get_or starts k d) → false ≡ starts_kept m t starts
+starts_unsorted m t starts l (k, h, f) =
+    starts_refused m t starts (λ s.
+    let u : get_or starts k 0 ≤ get_or starts (k + 1) 0 = s.climbing k (k + 1) (omega arith) (omega arith) in
+    omega (arith, f 0))

@@ -4,5 +4,5 @@ pub mod Reading
 pub mod Lowest
 pub mod Soundness
 pub mod SolverCalls
-pub mod Determined
 pub mod Examples
+pub mod Determined

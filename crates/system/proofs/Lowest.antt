@@ -5,9 +5,9 @@ use mathlib.Core.List.{List, [], ◌∷◌}
 use Prim.Native.Nat.{ℕ, zero, suc, ◌+◌, ◌-◌, ◌<◌, ◌≤◌, zero-le}
 use native.Mathlib.Nat.{not-suc-le-zero, le_of_suc-le-suc, add-zero, zero-add, sub-zero}
 use native.Mathlib.Omega.{arith}
-use lib.ListN.{length, get_or, take, drop}
+use lib.ListN.{length, get_or}
 use Rattle.gf2.specs.Equation.{Equation, Each}
-use Rattle.areas.specs.Stretch.{stretch}
+use Rattle.system.specs.Lent.{Readable}
 use Rattle.system.specs.System.{equation_at, equations_from, equations, starts_kept, in_order, lowest_bad}
 use Rattle.system.proofs.Climbing.{Starts, starts_sound}
 use Rattle.system.proofs.Reading.{from_turn, from_end}
@@ -53,43 +53,44 @@ lowest_bad_lem n (e ∷ es) d h = go (in_order n e.vars) refl (lowest_bad_lem n 
 
 -- ---- the walk: the equations before i are in order
 
-pub record Passed (n m : ℕ) (starts vars : List ℕ) (i : ℕ) : Type 0 where
+pub record Passed (n m : ℕ) (starts vars constants : List ℕ) (i : ℕ) : Type 0 where
   pub within : i ≤ m
   pub starting : Starts m (length vars) starts
-  pub rest : (constants : List ℕ) → lowest_bad n (equations m starts vars constants) ≡ i + lowest_bad n (equations_from (m - i) i starts vars constants)
+  pub rest : lowest_bad n (equations m starts vars constants) ≡ i + lowest_bad n (equations_from (m - i) i starts vars constants)
 
-pub passed_begin : (n m : ℕ) (starts vars : List ℕ) → starts_kept m (length vars) starts ≡ true → Passed n m starts vars 0
-passed_begin n m starts vars h = record { within = zero-le; starting = starts_sound m (length vars) starts h; rest = λ constants. rw (sub-zero m, zero-add) }
+pub passed_begin : (n m : ℕ) (starts vars constants : List ℕ) → starts_kept m (length vars) starts ≡ true → Passed n m starts vars constants 0
+passed_begin n m starts vars constants h = record { within = zero-le; starting = starts_sound m (length vars) starts h; rest = rw (sub-zero m, zero-add) }
 
-module _ {n m : ℕ} {starts vars : List ℕ} {i : ℕ} (p : Passed n m starts vars i) where
-  -- what the walk reads: the starts, and the variables between them
-  pub passed_read : i < m → (i + 1 < length starts) × (get_or starts i 0 ≤ get_or starts (i + 1) 0) × (get_or starts (i + 1) 0 ≤ length vars)
+module _ {n m : ℕ} {starts vars constants : List ℕ} {i : ℕ} (p : Passed n m starts vars constants i) where
+  pub passed_read : i < m → Readable starts vars i
   passed_read h =
       let s = p.starting in
       let k : get_or starts (i + 1) 0 ≤ get_or starts m 0 = s.climbing (i + 1) m (omega arith) (omega arith) in
-      (omega (arith, s.long), s.climbing i (i + 1) (omega arith) (omega arith), omega (arith, s.last))
+      record {
+        starting = omega (arith, s.long);
+        climbing = s.climbing i (i + 1) (omega arith) (omega arith);
+        within = omega (arith, s.last);
+      }
 
-  pub passed_turn : i < m → in_order n (take (get_or starts (i + 1) 0 - get_or starts i 0) (drop (get_or starts i 0) vars)) ≡ true → Passed n m starts vars (i + 1)
-  unfolding equation_at stretch
+  passed_next : i < m → lowest_bad n (equations m starts vars constants) ≡ i + lowest_bad n (equation_at starts vars constants i ∷ equations_from (m - (i + 1)) (i + 1) starts vars constants)
+  passed_next h = p.rest ∙ rw (from_turn starts vars constants m i h)
+
+  pub passed_turn : i < m → in_order n (equation_at starts vars constants i).vars ≡ true → Passed n m starts vars constants (i + 1)
   passed_turn h g =
+      let es = equations_from (m - (i + 1)) (i + 1) starts vars constants in
       record {
         within = omega arith;
         starting = p.starting;
-        rest = λ constants.
-            let es = equations_from (m - (i + 1)) (i + 1) starts vars constants in
-            let q = lowest_skip n (equation_at starts vars constants i) es g in
-            p.rest constants ∙ rw (from_turn starts vars constants m i h, q) (omega arith);
+        rest = passed_next h ∙ rw (lowest_skip n (equation_at starts vars constants i) es g) (omega arith);
       }
 
-  pub passed_stop : i < m → in_order n (take (get_or starts (i + 1) 0 - get_or starts i 0) (drop (get_or starts i 0) vars)) ≡ false → (constants : List ℕ) → i ≡ lowest_bad n (equations m starts vars constants)
-  unfolding equation_at stretch
-  passed_stop h g constants =
+  pub passed_stop : i < m → in_order n (equation_at starts vars constants i).vars ≡ false → i ≡ lowest_bad n (equations m starts vars constants)
+  passed_stop h g =
       let es = equations_from (m - (i + 1)) (i + 1) starts vars constants in
-      let q = lowest_here n (equation_at starts vars constants i) es g in
-      sym (p.rest constants ∙ rw (from_turn starts vars constants m i h, q) (add-zero i))
+      sym (passed_next h ∙ rw (lowest_here n (equation_at starts vars constants i) es g) (add-zero i))
 
-  pub passed_end : m ≤ i → (constants : List ℕ) → m ≡ lowest_bad n (equations m starts vars constants)
+  pub passed_end : m ≤ i → lowest_bad n (equations m starts vars constants) ≡ m
   unfolding lowest_bad
-  passed_end h constants =
+  passed_end h =
       let e : i ≡ m = omega (arith, p.within) in
-      sym (p.rest constants ∙ rw (from_end starts vars constants m i h) (omega arith))
+      p.rest ∙ rw (from_end starts vars constants m i h) (omega arith)

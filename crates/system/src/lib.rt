@@ -5,23 +5,46 @@ mod order;
 mod shape;
 
 ghost use Rattle.std.specs.Prelude.{◌≡◌};
-ghost use Rattle.system.specs.System.{system_rules};
+ghost use Rattle.answers.specs.Answers.{rules_of};
+ghost use Rattle.system.specs.System.{equation_at};
+ghost use Rattle.system.specs.Lent.{rules_in, ReadableIn};
 
-use answers::{Answer, Rules};
+use answers::Refusal;
 
-// Whether what was lent is a system: the sizes, then the shape, then the order of each equation's variables.
-pub fn rules(n: usize, m: usize, starts: &[u32], vars: &[u32], constants: &[u64]) -> Rules
-    ensures { result ≡ system_rules n m starts.now vars.now constants.now }
-{
-    if !shape::sizes_fit(n, m, vars.len()) {
-        return Rules::Broken(Answer::TooLarge);
+// A sparse system as it is lent: equation i lists the variables from start i up to start i + 1.
+#[derive(Clone, Copy)]
+pub struct System<'a> {
+    // How many variables.
+    pub n: usize,
+    // How many equations.
+    pub m: usize,
+    pub starts: &'a [u32],
+    pub vars: &'a [u32],
+    pub constants: &'a [u64],
+}
+
+impl<'a> System<'a> {
+    // Whether what was lent is a system: the sizes, then the shape, then the order of each equation's variables.
+    pub fn rules(&self) -> Result<(), Refusal>
+        ensures { rules_of result ≡ rules_in self.now }
+    {
+        if !shape::sizes_fit(self.n, self.m, self.vars.len()) {
+            return Err(Refusal::TooLarge);
+        }
+        if !shape::shape_kept(self) {
+            return Err(Refusal::BadShape);
+        }
+        match order::lowest_bad(self) {
+            Some(equation) => Err(Refusal::BadEntry(equation)),
+            None => Ok(()),
+        }
     }
-    if !shape::shape_kept(m, starts, vars, constants) {
-        return Rules::Broken(Answer::BadShape);
+
+    // The variables of equation i.
+    pub fn variables(&self, i: usize) -> &'a [u32]
+        requires { ReadableIn self.now i }
+        ensures { result.now ≡ (equation_at self.now.starts.now self.now.vars.now self.now.constants.now i).vars }
+    {
+        &self.vars[self.starts[i] as usize..self.starts[i + 1] as usize]
     }
-    let bad = order::lowest_bad(n, m, starts, vars);
-    if bad < m {
-        return Rules::Broken(Answer::BadEntry(bad));
-    }
-    Rules::Kept
 }

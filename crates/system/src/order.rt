@@ -1,40 +1,35 @@
 // The order of the variables within an equation.
-ghost use Rattle.std.specs.Prelude.{◌≡◌, true, List, ℕ, length};
-ghost use Rattle.system.specs.System.{starts_kept, in_order, lowest_bad, equations};
+ghost use Rattle.std.specs.Prelude.{◌≡◌, ◌<◌, true, length, MatchOption};
+ghost use Rattle.system.specs.System.{starts_kept, in_order, lowest_bad};
+ghost use Rattle.system.specs.Lent.{equations_in};
+
+use crate::System;
 
 // Whether the variables are strictly increasing and below n.
 fn in_order(n: usize, vars: &[u32]) -> bool
     ensures { result ≡ in_order n vars.now }
 {
     let mut low = 0;
-    let mut i = 0;
-    while i < vars.len() {
-        let v = vars[i] as usize;
-        if v < low {
-            return false;
-        }
-        if v >= n {
+    for v in vars {
+        let v = *v as usize;
+        if v < low || v >= n {
             return false;
         }
         low = v + 1;
-        i += 1;
     }
     true
 }
 
-// The lowest equation that is not in order, m where there is none.
-pub fn lowest_bad(n: usize, m: usize, starts: &[u32], vars: &[u32]) -> usize
-    requires { starts_kept m (length vars.now) starts.now ≡ true }
-    ensures { (constants : List ℕ) → result ≡ lowest_bad n (equations m starts.now vars.now constants) }
+// The lowest equation that is not in order.
+pub fn lowest_bad(system: &System) -> Option<usize>
+    requires { starts_kept system.now.m (length system.now.vars.now) system.now.starts.now ≡ true }
+    ensures { let low = lowest_bad system.now.n (equations_in system.now) in
+        MatchOption result (low ≡ system.now.m) (λ i. (i < system.now.m) × (i ≡ low)) }
 {
-    let mut i = 0;
-    while i < m {
-        let from = starts[i] as usize;
-        let to = starts[i + 1] as usize;
-        if !in_order(n, &vars[from..to]) {
-            return i;
+    for i in 0..system.m {
+        if !in_order(system.n, system.variables(i)) {
+            return Some(i);
         }
-        i += 1;
     }
-    m
+    None
 }
