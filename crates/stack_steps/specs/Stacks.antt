@@ -1,13 +1,33 @@
 -- Stacks in a lent slice: what a push and a pop answer and leave. A push on a full stack and a head that does not fit are outside the domain, and the state stays.
-use Rattle.std.specs.Prelude.{◌≡◌, List, [], ◌∷◌, Bool, ◌&&◌, ℕ, ◌+◌, ◌-◌, length, get_or, set, eqb, leb, ltb}
+use Rattle.std.specs.Prelude.{◌≡◌, List, [], ◌∷◌, Bool, ◌&&◌, ℕ, ◌+◌, ◌-◌, Result, Ok, Err, Option, Some, None, length, get_or, set, eqb, leb, ltb}
 use Rattle.answers.specs.Calls.{pick}
 use Rattle.answers.specs.Numbers.{number_of}
-use Rattle.answers.specs.Answers.{Solved, OutsideDomain}
+use Rattle.answers.specs.declared.refusal.Refusal.{Refusal}
+use Rattle.answers.specs.Answers.{Answer, Solved, OutsideDomain, refusal_of}
+use Rattle.peeling.specs.declared.numbers.Vertex.{Vertex}
 use Rattle.stack_steps.specs.declared.Head.{Head}
-use Rattle.stack_steps.specs.declared.Pushed.{Pushed}
-use Rattle.stack_steps.specs.declared.PopStep.{PopStep}
-use Rattle.stack_steps.specs.declared.Popped.{Popped}
-use Rattle.stack_steps.specs.declared.Popped.TheVariants.{Got, Empty, Refused}
+
+-- a push's answer, and the head after it
+pub record Pushed : Type 0 where
+  pub head : Head
+  pub answer : Answer
+
+-- what a pop finds
+pub data Popped : Type 0 where
+  Got : Vertex → Popped
+  Empty : Popped
+  Refused : Answer → Popped
+
+-- what a pop finds, and the head after it
+pub record PopStep : Type 0 where
+  pub head : Head
+  pub got : Popped
+
+-- what the code's result of a pop comes to
+abbrev pub popped_of : Result (Option Vertex) Refusal → Popped
+popped_of (Ok (Some v)) = Got v
+popped_of (Ok None) = Empty
+popped_of (Err r) = Refused (refusal_of r)
 
 pub record PushCall : Type 0 where
   pub result : Pushed

@@ -1,5 +1,4 @@
 // Stacks of vertex numbers in lent slices, whose heads are lent too.
 #![tactic(auto)]
 
-pub mod double;
-pub mod fast;
+pub use stack_steps::{Head, double, fast};
