@@ -14,15 +14,20 @@ use Rattle.answers.specs.Answers.{Answer}
 use Rattle.answers.specs.Answers.{WrongSolution}
 use Rattle.answers.specs.Answers.{Rules}
 use Rattle.answers.specs.Answers.{Kept, Broken}
-use Rattle.system_check.specs.declared.Checked.TheVariants.{Refused, Yes, No}
 use Rattle.system.specs.System.{equations, system_rules}
-use Rattle.system_check.specs.CheckCall.{all_met, checked, check_call}
+use Rattle.std.proofs.Common.{Ok}
+use Rattle.system_check.specs.CheckCall.{Refused, Yes, No, checked_of, all_met, checked, check_call}
 use Rattle.system_check.proofs.Meeting.{met_meets, meets_met}
 
 -- 1 to 3 before all else
 pub check_refused : (n m : ℕ) (starts vars constants solution : List ℕ) (answer : Answer) → system_rules n m starts vars constants ≡ Broken answer → check_call n m starts vars constants solution ≡ Refused answer
 unfolding check_call
 check_refused n m starts vars constants solution answer k = simp k
+
+-- what the code hands back where nothing refuses
+pub checked_by : (b : Bool) → checked_of (Ok b) ≡ pick b Yes No
+checked_by true = refl
+checked_by false = refl
 
 yes_met : (b : Bool) → pick b Yes No ≡ Yes → b ≡ true
 yes_met true e = refl
@@ -47,7 +52,7 @@ module _ (n m : ℕ) (starts vars constants solution : List ℕ) where
   unfolding check_call
   check_wrong k h = simp (k, ne_eqb (length solution) n h)
 
-  check_kept : system_rules n m starts vars constants ≡ Kept → length solution ≡ n → check_call n m starts vars constants solution ≡ pick (all_met solution (equations m starts vars constants)) Yes No
+  pub check_kept : system_rules n m starts vars constants ≡ Kept → length solution ≡ n → check_call n m starts vars constants solution ≡ pick (all_met solution (equations m starts vars constants)) Yes No
   unfolding check_call
   check_kept k h = simp (k, eq-eqb (length solution) n h)
 

@@ -6,9 +6,8 @@ use Rattle.gf2.specs.Equation.{eval_vars, eqn}
 use Rattle.areas.specs.Stretch.{stretch}
 use Rattle.answers.specs.Sizes.{max_variables, max_equations}
 use Rattle.answers.specs.Answers.{TooLarge, BadShape, BadEntry, WrongSolution}
-use Rattle.system_check.specs.declared.Checked.TheVariants.{Refused, Yes, No}
 use Rattle.system.specs.System.{equation_at, equations_from, equations, climbs, starts_kept, rises_below, lowest_bad, sizes_fit, shape_kept, system_rules}
-use Rattle.system_check.specs.CheckCall.{all_met, check_call}
+use Rattle.system_check.specs.CheckCall.{Refused, Yes, No, all_met, check_call}
 
 -- P3: {0,1} = 5, {1,2} = 3, {0,2} = 6
 abbrev starts₃ : List ℕ

@@ -6,14 +6,14 @@ use Prim.Native.Nat.{ℕ, ◌+◌, ◌-◌, ◌<◌, ◌≤◌, zero-le}
 use native.Mathlib.Nat.{sub-zero}
 use native.Mathlib.Omega.{arith}
 use borrow.Author.Tests.{eq-eqb, ne_eqb, eqb-true}
-use lib.ListN.{length, get_or, take, drop}
+use lib.ListN.{length, get_or}
 use lib.Dec.{eqb}
 use Rattle.gf2.specs.Equation.{Equation, Each, eval_vars, MeetsAll}
 use Rattle.gf2.proofs.Order.{rising_below}
-use Rattle.areas.specs.Stretch.{stretch}
 use Rattle.system.specs.System.{equation_at, equations_from, equations}
 use Rattle.system_check.specs.CheckCall.{all_met}
 use Rattle.system.specs.Fits.{Fits}
+use Rattle.system.specs.Lent.{Readable}
 use Rattle.gf2.proofs.Both.{both}
 use Rattle.system.proofs.Reading.{from_turn, from_end}
 
@@ -46,18 +46,20 @@ pub meeting_begin : (m : ℕ) (starts vars constants solution : List ℕ) → Fi
 meeting_begin m starts vars constants solution f = record { within = zero-le; fits = f; rest = rw (sub-zero m) }
 
 module _ {m : ℕ} {starts vars constants solution : List ℕ} {i : ℕ} (p : Meeting m starts vars constants solution i) where
-  -- what the walk reads: the starts, the variables between them and the constant
-  pub meeting_read : i < m → (i + 1 < length starts) × (get_or starts i 0 ≤ get_or starts (i + 1) 0) × (get_or starts (i + 1) 0 ≤ length vars) × (i < length constants)
+  pub meeting_read : i < m → Readable starts vars i
   meeting_read h =
       let f = p.fits in
-      (omega (arith, f.starts_long), f.climbing i (i + 1) (omega arith) (omega arith), f.within (i + 1) (omega arith), omega (arith, f.constants_long))
+      record {
+        starting = omega (arith, f.starts_long);
+        climbing = f.climbing i (i + 1) (omega arith) (omega arith);
+        within = f.within (i + 1) (omega arith);
+      }
 
-  pub meeting_low : i < m → Each (λ v. v < length solution) (take (get_or starts (i + 1) 0 - get_or starts i 0) (drop (get_or starts i 0) vars))
-  unfolding equation_at stretch
+  pub meeting_low : i < m → Each (λ v. v < length solution) (equation_at starts vars constants i).vars
   meeting_low h = rising_below 0 (length solution) (equation_at starts vars constants i).vars (p.fits.rising i h)
 
-  pub meeting_turn : i < m → eval_vars (take (get_or starts (i + 1) 0 - get_or starts i 0) (drop (get_or starts i 0) vars)) solution ≡ get_or constants i 0 → Meeting m starts vars constants solution (i + 1)
-  unfolding equation_at stretch all_met
+  pub meeting_turn : i < m → eval_vars (equation_at starts vars constants i).vars solution ≡ get_or constants i 0 → Meeting m starts vars constants solution (i + 1)
+  unfolding equation_at all_met
   meeting_turn h g =
       record {
         within = omega arith;
@@ -65,8 +67,8 @@ module _ {m : ℕ} {starts vars constants solution : List ℕ} {i : ℕ} (p : Me
         rest = p.rest ∙ rw (from_turn starts vars constants m i h, eq-eqb (eval_vars (equation_at starts vars constants i).vars solution) (get_or constants i 0) g);
       }
 
-  pub meeting_stop : i < m → (eval_vars (take (get_or starts (i + 1) 0 - get_or starts i 0) (drop (get_or starts i 0) vars)) solution ≡ get_or constants i 0 → ⊥) → false ≡ all_met solution (equations m starts vars constants)
-  unfolding equation_at stretch all_met
+  pub meeting_stop : i < m → (eval_vars (equation_at starts vars constants i).vars solution ≡ get_or constants i 0 → ⊥) → false ≡ all_met solution (equations m starts vars constants)
+  unfolding equation_at all_met
   meeting_stop h g =
       sym (p.rest ∙ rw (from_turn starts vars constants m i h, ne_eqb (eval_vars (equation_at starts vars constants i).vars solution) (get_or constants i 0) g))
 

@@ -1,9 +1,11 @@
 // The values of a solution against the equations.
 ghost use Rattle.std.specs.Prelude.{◌≡◌, ◌<◌, length};
 ghost use Rattle.gf2.specs.Equation.{Each, eval_vars};
-ghost use Rattle.system.specs.System.{equations};
-ghost use Rattle.system_check.specs.CheckCall.{all_met};
 ghost use Rattle.system.specs.Fits.{Fits};
+ghost use Rattle.system.specs.Lent.{equations_in};
+ghost use Rattle.system_check.specs.CheckCall.{all_met};
+
+use system::System;
 
 // The XOR of the values of the listed variables.
 pub fn eval_vars(vars: &[u32], values: &[u64]) -> u64
@@ -11,28 +13,21 @@ pub fn eval_vars(vars: &[u32], values: &[u64]) -> u64
     ensures { result ≡ eval_vars vars.now values.now }
 {
     let mut sum = 0;
-    let mut i = 0;
-    while i < vars.len() {
-        let v = vars[i] as usize;
-        sum ^= values[v];
-        i += 1;
+    for v in vars {
+        sum ^= values[*v as usize];
     }
     sum
 }
 
-// Whether the solution meets each of the m equations.
-pub fn all_met(m: usize, starts: &[u32], vars: &[u32], constants: &[u64], solution: &[u64]) -> bool
-    requires { Fits (length solution.now) m starts.now vars.now constants.now }
-    ensures { result ≡ all_met solution.now (equations m starts.now vars.now constants.now) }
+// Whether the solution meets each equation of the system.
+pub fn all_met(system: &System, solution: &[u64]) -> bool
+    requires { Fits (length solution.now) system.now.m system.now.starts.now system.now.vars.now system.now.constants.now }
+    ensures { result ≡ all_met solution.now (equations_in system.now) }
 {
-    let mut i = 0;
-    while i < m {
-        let from = starts[i] as usize;
-        let to = starts[i + 1] as usize;
-        if eval_vars(&vars[from..to], solution) != constants[i] {
+    for i in 0..system.m {
+        if eval_vars(system.variables(i), solution) != system.constants[i] {
             return false;
         }
-        i += 1;
     }
     true
 }

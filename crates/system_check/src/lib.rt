@@ -4,41 +4,19 @@
 mod evaluation;
 
 ghost use Rattle.std.specs.Prelude.{◌≡◌};
-ghost use Rattle.system_check.specs.CheckCall.{check_call};
+ghost use Rattle.system_check.specs.CheckCall.{checked_of, check_in};
 
-use answers::{Answer, Rules};
+use answers::Refusal;
 pub use evaluation::eval_vars;
-
-// What `check` answers.
-#[derive(Clone, Copy)]
-pub enum Checked {
-    Refused(Answer),
-    Yes,
-    No,
-}
+use system::System;
 
 // Whether the solution meets every equation of the system.
-pub fn check(
-    n: usize,
-    m: usize,
-    starts: &[u32],
-    vars: &[u32],
-    constants: &[u64],
-    solution: &[u64],
-) -> Checked
-    ensures { result ≡ check_call n m starts.now vars.now constants.now solution.now }
+pub fn check(system: &System, solution: &[u64]) -> Result<bool, Refusal>
+    ensures { checked_of result ≡ check_in system.now solution.now }
 {
-    match system::rules(n, m, starts, vars, constants) {
-        Rules::Broken(answer) => Checked::Refused(answer),
-        Rules::Kept => {
-            if solution.len() != n {
-                return Checked::Refused(Answer::WrongSolution);
-            }
-            if evaluation::all_met(m, starts, vars, constants, solution) {
-                Checked::Yes
-            } else {
-                Checked::No
-            }
-        }
+    system.rules()?;
+    if solution.len() != system.n {
+        return Err(Refusal::WrongSolution);
     }
+    Ok(evaluation::all_met(system, solution))
 }
