@@ -1,45 +1,37 @@
--- The loop that tests whether a list is increasing, and what its answer means.
-use mathlib.Core.Path.{◌≡◌, refl, sym, ◌∙◌}
-use mathlib.Core.Bool.{Bool, true, false, ◌&&◌, false≢true}
+-- The test whether a list is increasing, and what its answer means.
+use mathlib.Core.Path.{◌≡◌, refl, sym}
+use mathlib.Core.Bool.{Bool, true, false, ◌&&◌, and-false, false≢true}
 use mathlib.Core.Logic.{◌↔◌}
 use mathlib.Core.List.{List, [], ◌∷◌}
-use Prim.Native.Nat.{ℕ, ◌+◌, ◌<◌, ◌≤◌}
-use native.Mathlib.Numerals.{add-one}
+use Prim.Native.Nat.{ℕ, zero, suc, ◌<◌}
+use native.Mathlib.Numerals.{add-one, unary_clauses}
 use native.Mathlib.Omega.{arith}
-use borrow.Author.Tests.{lt-ltb, le-ltb, ltb-true}
-use lib.ListN.{length, drop, get_or, drop_of_length-le}
-use lib.Seq.{drop-cons}
+use borrow.Author.Tests.{lt-ltb, ltb-true}
+use lib.ListN.{length, get_or}
 use lib.Dec.{ltb}
+use Rattle.std.specs.List.{AllAdjacentBelow, IsAllAdjacentAnswer}
 use Rattle.gf2.specs.Equation.{Above, Increasing}
 use Rattle.gf2.proofs.VarLists.{above_trans}
 use Rattle.equation.specs.Increase.{rises, rises_from}
 
--- i elements of s are passed, the last of them is p, and s rises where the rest rises from p
-pub record Passed (s : List ℕ) (p i : ℕ) : Type 0 where
-  pub within : i ≤ length s
-  pub rest : rises s ≡ rises_from p (drop i s)
+-- what is told of each element and the next is whether the list rises
+all_above : (p : ℕ) (s : List ℕ) → AllAdjacentBelow (λ x y. true ≡ ltb x y) (p ∷ s) (suc (length s)) → true ≡ rises_from p s
+unfolding rises_from
+all_above p [] h = refl
+all_above p (x ∷ s) h = rw (← (h 0 0 (omega arith))) (all_above x s (λ k d l. rw add-one (simp unary_clauses at (h (suc k) d (omega arith)))))
 
-pub passed_none : (s : List ℕ) → length s ≡ 0 → true ≡ rises s
+one_falls : (p : ℕ) (s : List ℕ) (k : ℕ) → k < length s → false ≡ ltb (get_or (p ∷ s) k 0) (get_or s k 0) → false ≡ rises_from p s
+unfolding rises_from
+one_falls p [] k h e = absurd (omega arith)
+one_falls p (x ∷ s) zero h e = rw (← e) refl
+one_falls p (x ∷ s) (suc k) h e = rw (← (one_falls x s k (omega arith) e)) (sym (and-false (ltb p x)))
+
+pub rises_adjacent : (s : List ℕ) (r : Bool) → IsAllAdjacentAnswer (λ x y b. b ≡ ltb x y) s r → r ≡ rises s
 unfolding rises
-passed_none [] e = refl
-passed_none (x ∷ xs) e = absurd (omega arith)
-
-pub passed_first : (s : List ℕ) → (length s ≡ 0 → ⊥) → Passed s (get_or s 0 0) 1
-unfolding rises
-passed_first [] h = absurd (h refl)
-passed_first (x ∷ xs) h = record { within = omega arith; rest = refl }
-
-pub passed_next : {s : List ℕ} {p i : ℕ} → Passed s p i → i < length s → p < get_or s i 0 → Passed s (get_or s i 0) (i + 1)
-unfolding rises_from
-passed_next {s} {p} {i} r h k = record { within = omega arith; rest = r.rest ∙ rw (add-one, drop-cons s i 0 h, lt-ltb p (get_or s i 0) k) }
-
-pub passed_stop : {s : List ℕ} {p i : ℕ} → Passed s p i → i < length s → get_or s i 0 ≤ p → false ≡ rises s
-unfolding rises_from
-passed_stop {s} {p} {i} r h k = sym (r.rest ∙ rw (drop-cons s i 0 h, le-ltb p (get_or s i 0) k))
-
-pub passed_end : {s : List ℕ} {p i : ℕ} → Passed s p i → length s ≤ i → true ≡ rises s
-unfolding rises_from
-passed_end {s} r h = sym (r.rest ∙ rw (drop_of_length-le s h))
+rises_adjacent [] true h = refl
+rises_adjacent [] false h = absurd (omega (arith, h.1))
+rises_adjacent (x ∷ s) true h = all_above x s h
+rises_adjacent (x ∷ s) false h = one_falls x s h.0 (omega (arith, h.1)) (rw add-one at (h.2 0))
 
 -- ---- the test says what it should
 

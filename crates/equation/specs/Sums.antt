@@ -1,5 +1,5 @@
 -- The call that adds two equations: its result, and what it leaves in `out`.
-use Rattle.std.specs.Prelude.{◌≡◌, List, ◌&&◌, ℕ, ◌+◌, length, leb}
+use Rattle.std.specs.Prelude.{◌≡◌, List, ◌&&◌, ℕ, ◌+◌, length, leb, Result, Ok, Err}
 use Rattle.std.specs.Int.Bits.{bit_xor}
 use Rattle.gf2.specs.Equation.{sym_diff}
 use Rattle.areas.specs.Stretch.{put}
@@ -7,11 +7,18 @@ use Rattle.areas.specs.Rows.{padded}
 use Rattle.answers.specs.Sizes.{max_summed}
 use Rattle.answers.specs.Numbers.{number_of, place_of}
 use Rattle.answers.specs.Calls.{pick}
-use Rattle.answers.specs.Answers.{Answer}
-use Rattle.answers.specs.Answers.{Solved, TooLarge, BadEntry, ShortArea}
-use Rattle.equation.specs.declared.Summed.{Summed}
+use Rattle.answers.specs.declared.refusal.Refusal.{Refusal}
+use Rattle.answers.specs.Answers.{Answer, Solved, TooLarge, BadEntry, ShortArea, answer_of}
+use Rattle.equation.specs.declared.Summed as code
 use Rattle.equation.specs.Increase.{rises}
 use Rattle.gf2.specs.Common.{common}
+
+pub record Summed : Type 0 where
+  pub answer : Answer
+  pub len : ℕ
+  pub constant : ℕ
+  -- how many variables stood in both lists
+  pub cancelled : ℕ
 
 pub record SumCall : Type 0 where
   pub result : Summed
@@ -52,3 +59,23 @@ pub record TellsSum (c : SumCall) (number place len constant cancelled : ℕ) (o
   pub constant_is : constant ≡ c.result.constant
   pub cancelled_is : cancelled ≡ c.result.cancelled
   pub out_is : out ≡ c.out
+
+-- what the code hands back of a sum, and 0 where it refuses one
+abbrev pub handed : (code.Summed → ℕ) → Result code.Summed Refusal → ℕ
+handed f (Ok s) = f s
+handed f (Err r) = 0
+
+-- what the code's result comes to
+abbrev pub summed_of : Result code.Summed Refusal → Summed
+summed_of r =
+    record {
+      answer = answer_of r;
+      len = handed (λ s. s.len) r;
+      constant = handed (λ s. s.constant) r;
+      cancelled = handed (λ s. s.cancelled) r;
+    }
+
+-- the code's result and `out` tell the call
+abbrev pub ToldBy : Result code.Summed Refusal → List ℕ → SumCall → Type 0
+ToldBy r out c =
+    TellsSum c (number_of (summed_of r).answer) (place_of (summed_of r).answer) (summed_of r).len (summed_of r).constant (summed_of r).cancelled out

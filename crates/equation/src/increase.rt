@@ -6,18 +6,5 @@ ghost use Rattle.equation.specs.Increase.{rises};
 pub fn increasing(s: &[u32]) -> bool
     ensures { result ≡ rises s.now }
 {
-    if s.len() == 0 {
-        return true;
-    }
-    let mut prev = s[0];
-    let mut i = 1;
-    while i < s.len() {
-        let x = s[i];
-        if x <= prev {
-            return false;
-        }
-        prev = x;
-        i += 1;
-    }
-    true
+    s.is_sorted_by(|x, y| *x < *y)
 }

@@ -12,7 +12,7 @@ pub struct Place {
     pub out: usize,
 }
 
-// Merges `left` and `right` into `out` until one of them ends.
+// Merges `left` and `right` into `out` until one of them ends: two indices that move each for itself, so no `for` or chain says it more plainly.
 fn merge(left: &[u32], right: &[u32], out: &mut [u32]) -> Place
     requires { length left.now + length right.now ≤ length out.old }
     ensures ended { Ended left.now right.now result.left result.right result.out }
@@ -48,15 +48,17 @@ fn merge(left: &[u32], right: &[u32], out: &mut [u32]) -> Place
 }
 
 // Writes the sum of `left` and `right` to the front of `out`, and returns its length.
+#[tactic(auto, using(crate::proofs::Gather::ended_short))]
 pub fn add_ptr(left: &[u32], right: &[u32], out: &mut [u32]) -> usize
     requires { length left.now + length right.now ≤ length out.old }
     ensures value { result ≡ length (sym_diff left.now right.now) }
     ensures out_after { out.new ≡ put 0 (sym_diff left.now right.now) out.old }
 {
-    let p = merge(left, right, out);
-    let i = p.left;
-    let j = p.right;
-    let d = p.out;
+    let Place {
+        left: i,
+        right: j,
+        out: d,
+    } = merge(left, right, out);
     areas::copy(&left[i..], out, d);
     let e = d + (left.len() - i);
     areas::copy(&right[j..], out, e);
