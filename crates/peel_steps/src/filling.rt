@@ -7,12 +7,12 @@ ghost use Rattle.peel_rules.specs.Edges.{Valid};
 ghost use Rattle.peel_rules.specs.Peel.{fill_one};
 ghost use Rattle.peel_rules.specs.Machine.{side_from};
 
-use crate::index::wide;
 use crate::sides::{first_of, second_of, vertex_at};
 use peeling::incidence::{number_at, side_at};
 use peeling::numbers::{Edge, Vertex};
 
 // Gives the vertex at the side the value that the edge's equation leaves for it.
+#[tactic(auto, unfolding(peel_rules::specs::Peel::fill_one))]
 pub fn fill_one(solution: &mut [u64], e: Edge, side: u8)
     requires { Valid (length solution.old) e }
     ensures { solution.new ≡ fill_one (record { edge = e; side = side_from side }) solution.old }
@@ -46,7 +46,7 @@ fn kept_edge(n: usize, k: usize, numbers: &[u32], bytes: &[u8]) -> PeeledAt
     ensures { (result.edge ≡ number_at true n k numbers.now) × (result.side ≡ side_no_at true n k numbers.now bytes.now) }
 {
     PeeledAt {
-        edge: wide(numbers[n + n + k]),
+        edge: numbers[n + n + k] as usize,
         side: bytes[n + k],
     }
 }
@@ -59,7 +59,7 @@ fn kept_vertex(n: usize, k: usize, numbers: &[u32], bytes: &[u8]) -> PeeledAt
     let v = Vertex(numbers[n + n - (k + 1)]);
     let x = number_at(numbers, v);
     PeeledAt {
-        edge: wide(x.0),
+        edge: x.0 as usize,
         side: side_at(bytes, v),
     }
 }

@@ -1,10 +1,6 @@
 use Rattle.peel_steps.proofs.ReadLaws.{reads_high, reads_low}
 use Rattle.peel_steps.proofs.filling.peeled_at.Statement.{statement}
 use Rattle.peel_steps.proofs.filling.peeled_at.Tie as tie
-use Rattle.peel_steps.proofs.filling.peeled_at.Reads as reads
-use Rattle.peel_steps.proofs.filling.peeled_at.Lts as lts
-use Rattle.peel_steps.proofs.filling.kept_edge.Reads as kept-edge-reads
-use Rattle.peel_steps.proofs.filling.kept_vertex.Reads as kept-vertex-reads
 
 kept_edge_requires : tie.Need-kept_edge-requires
 kept_edge_requires c κs = let k = reads_high _ _ _ _ _ c.if-high.true c.requires.2 in (c.requires.0, c.requires.1, k.0, k.1)
