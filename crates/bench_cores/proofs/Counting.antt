@@ -84,7 +84,7 @@ degrees_end {m} {v} {alive} {table} {i} {d} w h la =
 pub all_alive : (m : ℕ) (table : List Edge) → m ≤ 256 → m ≤ length table → alive_of m (replicate 256 1) table ≡ take m table
 unfolding alive_of
 all_alive m table h l =
-    ap (λ (b : List ℕ). pick (living b) (take m table)) (take-replicate m 256 1 h ∙ ap (λ (k : ℕ). replicate k 1) (sym (length-take-le m table l))) ∙ living_all (take m table)
+    ap (λ (b : List ℕ). pick (living b) (take m table)) (take-replicate {X = ℕ} m 256 1 h ∙ ap (λ (k : ℕ). replicate k 1) (sym (length-take-le m table l))) ∙ living_all (take m table)
 
 -- no vertex below v lies on a crowd
 pub record Crowding (n : ℕ) (es : List Edge) (v : ℕ) : Type 0 where

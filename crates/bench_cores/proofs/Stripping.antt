@@ -156,7 +156,7 @@ rounds_begin m table h lt = record {
   done = omega arith;
   each = omega arith;
   long = length-replicate {A = ℕ} 256 1;
-  largest = λ bs l t. rw (take-replicate m 256 1 h) (within_all bs m l);
+  largest = λ bs l t. rw (take-replicate {X = ℕ} m 256 1 h) (within_all bs m l);
   count = rw (all_alive m table h lt) (omega (arith, length-take-le m table lt));
 }
 

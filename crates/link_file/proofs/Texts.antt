@@ -42,7 +42,7 @@ unfolding served
 by_elimination kind n rows solution h = simp (ne_eqb kind peel_kind h)
 
 pub few_cells : (n k : ℕ) → n ≤ k → length (take n (zeros k)) ≡ n
-few_cells n k h = rw (take-replicate n k 0 h) (length-replicate n 0)
+few_cells n k h = rw (take-replicate {X = ℕ} n k 0 h) (length-replicate n 0)
 
 -- ---- sizes
 

@@ -24,7 +24,7 @@ returns : tie.Need-returns
 returns c =
     let a = c.args in
     let e = c.solve_and_write.ensures in
-    let q = ap (λ (cells : List ℕ). outcome_text (served a.kind a.n (file_rows a.kind a.m a.bytes.now) cells)) (take-replicate a.n most_variables 0 c.requires.0.0.few_variables) in
+    let q = ap (λ (cells : List ℕ). outcome_text (served a.kind a.n (file_rows a.kind a.m a.bytes.now) cells)) (take-replicate {X = ℕ} a.n most_variables 0 c.requires.0.0.few_variables) in
     retold a.at c.solve_and_write.result a.out.now _ q e.0 e.1
 
 pub write_served_spec : {M : Type 1} → statement M
