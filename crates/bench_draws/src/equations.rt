@@ -2,127 +2,105 @@
 ghost use Rattle.std.specs.Prelude.{◌≡◌, ◌+◌, ◌*◌, ◌≤◌, ◌<◌, length};
 ghost use Rattle.bench_draws.specs.Draws.{after, values_of, spoilt, spoilt_seed};
 
-use crate::random::{below, draw, least};
+use crate::random::Random;
+
+// The fewest and the most variables that an equation lists, and the words that its row takes.
+#[derive(Clone, Copy)]
+pub struct Shape {
+    pub shortest: usize,
+    pub longest: usize,
+    pub row_words: usize,
+}
 
 // Values of `bits` bits at most.
-pub fn draw_values(seed: &mut u64, bits: u32, values: &mut [u64])
+#[tactic(auto, using(crate::proofs::Drawing::one_more), unfolding(crate::specs::Draws::after, crate::specs::Draws::values_of))]
+pub fn draw_values(random: &mut Random, bits: u32, values: &mut [u64])
     requires { (0 < bits) × (bits ≤ 64) }
-    ensures { (values.new ≡ values_of bits (length values.old) seed.old) × (seed.new ≡ after (length values.old) seed.old) }
+    ensures drawn { values.new ≡ values_of bits (length values.old) random.old }
+    ensures seed { random.new ≡ after (length values.old) random.old }
 {
-    let mut i = 0;
-    while i < values.len() {
-        values[i] = draw(seed) >> (64 - bits);
-        i += 1;
+    for value in values {
+        *value = random.next() >> (64 - bits);
     }
 }
 
 // How many of the next `span` variables are passed over before one of `left` is taken, so that every choice is as likely as another.
-fn draw_gap(seed: &mut u64, span: usize, left: usize) -> usize
+fn draw_gap(random: &mut Random, span: usize, left: usize) -> usize
     requires { (0 < left) × (left ≤ span) }
     ensures { result + left ≤ span }
 {
     let mut gap = 0;
-    while left <= below(seed, span - gap) {
+    // No `for`: the draws say how far it goes.
+    while left <= random.below(span - gap) {
         gap += 1;
     }
     gap
 }
 
-// Lists `count` variables below n from `at` on, rising, and sets their bits in the row; hands back the XOR of their values.
-fn draw_equation(
-    seed: &mut u64,
-    n: usize,
-    count: usize,
-    values: &[u64],
-    vars: &mut [u32],
-    at: usize,
-    row: &mut [u64],
-) -> u64
-    requires { (count ≤ n) × (n ≤ length values.now) × (n ≤ 16384) × (at + count ≤ length vars.old) × (n ≤ 64 * length row.old) }
+// Fills `vars` with different variables, rising, and sets their bits in the row; hands back the XOR of their values.
+fn draw_equation(random: &mut Random, values: &[u64], vars: &mut [u32], row: &mut [u64]) -> u64
+    requires fewer { length vars.old ≤ length values.now }
+    requires fits { (length values.now ≤ 16384) × (length values.now ≤ 64 * length row.old) }
 {
-    let mut sum: u64 = 0;
-    let mut left = count;
-    let mut v: usize = 0;
-    while left > 0 {
-        v += draw_gap(seed, n - v, left);
-        vars[at + count - left] = v as u32;
+    let count = vars.len();
+    let mut sum = 0;
+    let mut v = 0;
+    for (drawn, var) in vars.iter_mut().enumerate() {
+        v += draw_gap(random, values.len() - v, count - drawn);
+        *var = v as u32;
         row[v / 64] ^= 1 << (v % 64);
         sum ^= values[v];
         v += 1;
-        left -= 1;
     }
     sum
 }
 
-// Draws an equation as row i of m rows of w words.
-fn draw_row(
-    seed: &mut u64,
-    n: usize,
-    m: usize,
-    w: usize,
-    i: usize,
-    count: usize,
-    values: &[u64],
-    vars: &mut [u32],
-    at: usize,
-    rows: &mut [u64],
-) -> u64
-    requires { (count ≤ n) × (n ≤ length values.now) × (n ≤ 16384) × (at + count ≤ length vars.old) × (n ≤ 64 * w) × (i < m) × (m * w ≤ length rows.old) }
+// How many variables an equation lists, as far as there is room.
+fn draw_count(random: &mut Random, shape: Shape, room: usize) -> usize
+    requires { (shape.shortest ≤ shape.longest) × (shape.longest ≤ 16384) }
+    ensures { (result ≤ shape.longest) × (result ≤ room) }
 {
-    let base = i * w;
-    let end = base + w;
-    draw_equation(seed, n, count, values, vars, at, &mut rows[base..end])
+    let drawn = shape.shortest + random.below(shape.longest - shape.shortest + 1);
+    drawn.min(room)
 }
 
-// How many variables an equation lists: `shortest` to `longest`, as far as there is room.
-fn draw_count(seed: &mut u64, shortest: usize, longest: usize, room: usize) -> usize
-    requires { (shortest ≤ longest) × (longest ≤ 16384) }
-    ensures { (result ≤ longest) × (result ≤ room) }
-{
-    let drawn = shortest + below(seed, longest - shortest + 1);
-    least(drawn, room)
-}
-
-// Draws m equations of `shortest` to `longest` variables below n that the values meet, each as a row of w words too; hands back how many variables they list.
+// Draws as many equations as there are constants, which the values meet, each as a row too; hands back how many variables they list.
 pub fn draw_equations(
-    seed: &mut u64,
-    n: usize,
-    m: usize,
-    w: usize,
-    shortest: usize,
-    longest: usize,
+    random: &mut Random,
+    shape: Shape,
     values: &[u64],
     starts: &mut [u32],
     vars: &mut [u32],
     constants: &mut [u64],
     rows: &mut [u64],
 ) -> usize
-    requires m_in_bounds { (m + 1 ≤ length starts.old) × (m ≤ length constants.old) × (m * w ≤ length rows.old) × (length vars.old ≤ 65536) }
-    requires shortest_le_longest { (shortest ≤ longest) × (longest ≤ n) × (n ≤ length values.now) × (n ≤ 16384) × (n ≤ 64 * w) }
+    requires lists { (length constants.old < length starts.old) × (length vars.old ≤ 65536) }
+    requires row { (length constants.old * shape.row_words ≤ length rows.old) × (length values.now ≤ 64 * shape.row_words) }
+    requires variables { (shape.shortest ≤ shape.longest) × (shape.longest ≤ length values.now) × (length values.now ≤ 16384) }
     ensures { result ≤ length vars.old }
 {
-    let mut t: usize = 0;
-    let mut i = 0;
-    while i < m {
+    let mut t = 0;
+    for i in 0..constants.len() {
         starts[i] = t as u32;
-        let count = draw_count(seed, shortest, longest, vars.len() - t);
-        constants[i] = draw_row(seed, n, m, w, i, count, values, vars, t, rows);
+        let count = draw_count(random, shape, vars.len() - t);
+        let row = &mut rows[i * shape.row_words..(i + 1) * shape.row_words];
+        constants[i] = draw_equation(random, values, &mut vars[t..t + count], row);
         t += count;
-        i += 1;
     }
-    starts[m] = t as u32;
+    starts[constants.len()] = t as u32;
     t
 }
 
-// Another bit in one of the m constants.
-pub fn spoil(seed: &mut u64, m: usize, constants: &mut [u64])
-    requires { m ≤ length constants.old }
-    ensures { (constants.new ≡ spoilt m seed.old constants.old) × (seed.new ≡ spoilt_seed m seed.old) }
+// Another bit in one of the constants, if there are any.
+#[tactic(auto, unfolding(crate::specs::Draws::after))]
+pub fn spoil(random: &mut Random, constants: &mut [u64])
+    ensures spoilt { constants.new ≡ spoilt (length constants.old) random.old constants.old }
+    ensures seed { random.new ≡ spoilt_seed (length constants.old) random.old }
 {
-    if m == 0 {
+    if constants.is_empty() {
         return;
     }
-    let i = below(seed, m);
-    let bit = below(seed, 64);
+    let i = random.below(constants.len());
+    let bit = random.below(64);
     constants[i] ^= 1 << bit;
 }

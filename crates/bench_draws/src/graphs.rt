@@ -1,8 +1,8 @@
-// Tables of edges that a seed gives.
-ghost use Rattle.std.specs.Prelude.{◌≡◌, ◌++◌, ◌+◌, ◌-◌, ◌*◌, ◌%◌, ◌≤◌, ◌<◌, replicate};
+// Edges that a seed gives.
+ghost use Rattle.std.specs.Prelude.{◌≡◌, ◌+◌, ◌*◌, ◌%◌, ◌≤◌, ◌<◌, length};
 ghost use Rattle.bench_draws.specs.Draws.{after, passing, edge_of, edges_of};
 
-use crate::random::{below, draw};
+use crate::random::Random;
 use peeling::numbers::{Edge, Vertex};
 
 // The vertex `step` places past `a`, round n vertices.
@@ -16,24 +16,24 @@ fn vertex_past(a: usize, step: usize, n: usize) -> Vertex
 // The number `j` of those that are left when `i` is taken away.
 fn skip(j: usize, i: usize) -> usize
     requires { j ≤ 16384 }
-    ensures { (result ≡ passing j i) × (result ≤ j + 1) }
+    ensures value { result ≡ passing j i }
+    ensures near { result ≤ j + 1 }
 {
-    if j < i {
-        return j;
-    }
-    j + 1
+    if j < i { j } else { j + 1 }
 }
 
 // An edge over three different vertices below n, the first of them below `hubs`.
-fn draw_edge(seed: &mut u64, n: usize, hubs: usize) -> Edge
+#[tactic(auto, unfolding(crate::specs::Draws::after, crate::specs::Draws::edge_of))]
+pub fn draw_edge(random: &mut Random, n: usize, hubs: usize) -> Edge
     requires { (3 ≤ n) × (0 < hubs) × (hubs ≤ n) × (n ≤ 16384) }
-    ensures { (result ≡ edge_of n hubs seed.old) × (seed.new ≡ after 4 seed.old) }
+    ensures drawn { result ≡ edge_of n hubs random.old }
+    ensures seed { random.new ≡ after 4 random.old }
 {
-    let a = below(seed, hubs);
-    let i = below(seed, n - 1);
-    let j = below(seed, n - 2);
+    let a = random.below(hubs);
+    let i = random.below(n - 1);
+    let j = random.below(n - 2);
     let k = skip(j, i);
-    let value = draw(seed);
+    let value = random.next();
     Edge {
         a: vertex_past(a, 0, n),
         b: vertex_past(a, i + 1, n),
@@ -42,18 +42,14 @@ fn draw_edge(seed: &mut u64, n: usize, hubs: usize) -> Edge
     }
 }
 
-// A table whose first m edges are drawn so.
-pub fn draw_edges(seed: &mut u64, n: usize, m: usize, hubs: usize) -> [Edge; 256]
-    requires { (3 ≤ n) × (0 < hubs) × (hubs ≤ n) × (n ≤ 16384) × (m ≤ 256) }
-    ensures value { result ≡ edges_of n hubs m (after 4 seed.old) ++ replicate (256 - m) (edge_of n hubs seed.old) }
-    ensures seed_after { seed.new ≡ after (4 * m) (after 4 seed.old) }
+// Draws all the edges so.
+#[tactic(auto, using(crate::proofs::Drawing::one_more), unfolding(crate::specs::Draws::after, crate::specs::Draws::edges_of))]
+pub fn draw_edges(random: &mut Random, n: usize, hubs: usize, edges: &mut [Edge])
+    requires { (3 ≤ n) × (0 < hubs) × (hubs ≤ n) × (n ≤ 16384) }
+    ensures drawn { edges.new ≡ edges_of n hubs (length edges.old) random.old }
+    ensures seed { random.new ≡ after (4 * length edges.old) random.old }
 {
-    let first = draw_edge(seed, n, hubs);
-    let mut table = [first; 256];
-    let mut i = 0;
-    while i < m {
-        table[i] = draw_edge(seed, n, hubs);
-        i += 1;
+    for edge in edges {
+        *edge = draw_edge(random, n, hubs);
     }
-    table
 }

@@ -1,40 +1,48 @@
 // The numbers that a seed gives.
-ghost use Rattle.std.specs.Prelude.{◌≡◌, ◌≤◌, ◌<◌, min};
+ghost use Rattle.std.specs.Prelude.{◌≡◌, ℕ, ◌<◌};
 ghost use Rattle.bench_draws.specs.Draws.{next, below_of};
 
-// Marsaglia's xorshift64: from a number that is not 0 it never comes to 0.
-fn next_of(x: u64) -> u64
-    ensures { result ≡ next x }
-{
-    let a = x ^ (x << 13);
-    let b = a ^ (a >> 7);
-    b ^ (b << 17)
+use std::marker::Model;
+
+// Marsaglia's xorshift64: from a seed that is not 0 it never comes to 0. A contract sees the seed.
+#[derive(Drop)]
+pub struct Random {
+    seed: u64,
 }
 
-// The next number, and the seed after it.
-pub fn draw(seed: &mut u64) -> u64
-    ensures { (result ≡ next seed.old) × (seed.new ≡ next seed.old) }
-{
-    let x = next_of(*seed);
-    *seed = x;
-    x
+impl Model for Random {
+    ghost Value = { ℕ };
+
+    ghost view = { λ r. r.seed };
 }
 
-// A number below `bound`, from the high bits, which are the better ones.
-pub fn below(seed: &mut u64, bound: usize) -> usize
-    requires { 0 < bound }
-    ensures { (result ≡ below_of bound seed.old) × (result < bound) × (seed.new ≡ next seed.old) }
-{
-    let x = draw(seed) >> 16;
-    (x % (bound as u64)) as usize
-}
-
-// The lesser of two numbers.
-pub fn least(a: usize, b: usize) -> usize
-    ensures { (result ≡ min a b) × (result ≤ a) × (result ≤ b) }
-{
-    if a < b {
-        return a;
+impl Random {
+    pub fn new(seed: u64) -> Random
+        ensures { result ≡ seed }
+    {
+        Random { seed }
     }
-    b
+
+    // The next number, which is the seed after it too.
+    #[tactic(auto, unfolding(crate::specs::Draws::next))]
+    pub fn next(&mut self) -> u64
+        ensures drawn { result ≡ next self.old }
+        ensures seed { self.new ≡ next self.old }
+    {
+        let a = self.seed ^ (self.seed << 13);
+        let b = a ^ (a >> 7);
+        self.seed = b ^ (b << 17);
+        self.seed
+    }
+
+    // A number below `bound`, from the high bits, which are the better ones.
+    pub fn below(&mut self, bound: usize) -> usize
+        requires { 0 < bound }
+        ensures drawn { result ≡ below_of bound self.old }
+        ensures in_bound { result < bound }
+        ensures seed { self.new ≡ next self.old }
+    {
+        let high = self.next() >> 16;
+        (high % bound as u64) as usize
+    }
 }
