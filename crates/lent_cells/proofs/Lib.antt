@@ -1,3 +1,1 @@
 pub mod Same
-pub mod Leaving
-pub mod Marking

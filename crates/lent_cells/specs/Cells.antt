@@ -1,5 +1,6 @@
 -- What a call must leave of a lent area whose cells all held the mark.
-use Rattle.std.specs.Prelude.{Bool, true, false, ◌&&◌, List, [], ◌∷◌, ℕ, ltb, eqb, length, take, replicate}
+use Rattle.std.specs.Prelude.{Bool, true, false, List, ℕ, ltb, nat_eq, length, take, replicate}
+use Rattle.std.specs.Cmp.Lexicographic.{pointwise}
 use Rattle.areas.specs.Stretch.{cleared}
 
 abbrev pub mark : ℕ
@@ -13,12 +14,9 @@ zero_or false x = x
 abbrev pub left_at : ℕ → ℕ → ℕ
 left_at room i = zero_or (ltb i room) mark
 
--- as long, and cell for cell the same
-unfoldable pub same_cells : List ℕ → List ℕ → Bool
-same_cells [] [] = true
-same_cells [] (y ∷ ys) = false
-same_cells (x ∷ xs) [] = false
-same_cells (x ∷ xs) (y ∷ ys) = eqb x y && same_cells xs ys
+-- as long, and cell for cell the same: what `==` says of two slices of numbers
+abbrev pub same_cells : List ℕ → List ℕ → Bool
+same_cells = pointwise nat_eq
 
 -- n marked cells of which the room has been cleared, as the calls' definitions clear it
 abbrev pub leaves : ℕ → ℕ → List ℕ
