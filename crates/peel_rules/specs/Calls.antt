@@ -6,7 +6,7 @@ use Rattle.answers.specs.Calls.{pick}
 use Rattle.answers.specs.Answers.{Answer}
 use Rattle.answers.specs.Answers.{Solved, TooLarge, BadEntry, WrongSolution, ShortArea, CrowdedVertex, Stuck}
 use Rattle.peeling.specs.declared.numbers.Edge.{Edge}
-use Rattle.peel_rules.specs.declared.report.StuckReport.{StuckReport}
+use Rattle.answers.specs.declared.refusal.StuckReport.{StuckReport}
 use Rattle.peel_rules.specs.Edges.{edge, is_valid, bad_edge}
 use Rattle.peel_rules.specs.Peel.{edge_xor, Outcome, solved, stuck, answer, crowded_vertex}
 use Rattle.peel_rules.specs.Report.{report_of, no_report}

@@ -2,7 +2,7 @@
 use Rattle.std.specs.Prelude.{ℕ, ◌-◌, pos, Float}
 use Rattle.std.specs.Float.{binary64}
 use Rattle.std.specs.Float.Ieee.{mul, div, of_int}
-use Rattle.peel_rules.specs.declared.report.StuckReport.{StuckReport}
+use Rattle.answers.specs.declared.refusal.StuckReport.{StuckReport}
 
 -- a count as an f64
 abbrev pub count : ℕ → Float

@@ -1,4 +1,2 @@
-// The rules of peeling: definitions in specs/, laws in proofs/, and the report of a stuck peeler.
+// The rules of peeling: definitions in specs/, laws in proofs/, no code.
 #![tactic(auto)]
-
-pub mod report;
