@@ -1,47 +1,24 @@
 // What a peeler answers.
 ghost use Rattle.std.specs.Prelude.{◌≡◌, ◌≤◌};
 ghost use Rattle.answers.specs.Sizes.{max_equations};
-ghost use Rattle.answers.specs.Answers.{CrowdedVertex};
-ghost use Rattle.peel_rules.specs.Report.{no_report, report_of};
-ghost use Rattle.peel_gates.specs.Ends.{end_of};
+ghost use Rattle.peel_rules.specs.Report.{report_of};
+ghost use Rattle.peel_gates.specs.Ends.{end_of, peeling_of};
 
-use answers::Answer;
-use peel_rules::report::StuckReport;
-
-#[derive(Clone, Copy)]
-pub struct Peeling {
-    pub answer: Answer,
-    // Told where a core is left.
-    pub report: StuckReport,
-}
-
-pub fn crowded(low: usize) -> Peeling
-    ensures { result ≡ record { answer = CrowdedVertex low; report = no_report } }
-{
-    Peeling {
-        answer: Answer::CrowdedVertex(low),
-        report: StuckReport::none(),
-    }
-}
+use answers::{StuckReport, Unpeeled};
 
 // Stuck where an edge is left, solved where none is.
-pub fn ended(m: usize, peeled: usize) -> Peeling
+pub fn ended(m: usize, peeled: usize) -> Result<(), Unpeeled>
     requires { (peeled ≤ m) × (m ≤ max_equations) }
-    ensures { result ≡ end_of m peeled }
+    ensures { peeling_of result ≡ end_of m peeled }
 {
     if peeled < m {
-        return Peeling {
-            answer: Answer::Stuck(peeled),
-            report: report_of(peeled, m),
-        };
+        return Err(Unpeeled::Stuck(report_of(peeled, m)));
     }
-    Peeling {
-        answer: Answer::Solved,
-        report: StuckReport::none(),
-    }
+    Ok(())
 }
 
 // The report of a peeler that peeled some of the edges.
+#[tactic(auto, using(peel_rules::proofs::Counts::hundred))]
 fn report_of(peeled: usize, edges: usize) -> StuckReport
     requires { (peeled ≤ edges) × (edges ≤ max_equations) }
     ensures { result ≡ report_of peeled edges }

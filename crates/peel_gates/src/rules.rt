@@ -1,20 +1,11 @@
 // What is refused before the run.
 ghost use Rattle.std.specs.Prelude.{◌≡◌};
 ghost use Rattle.peel_rules.specs.Edges.{is_valid};
-ghost use Rattle.peel_gates.specs.Gates.{gate_of, shut};
+ghost use Rattle.peel_gates.specs.Gates.{gate_of, gate_by};
 
-use crate::ends::Peeling;
-use crate::rooms::{bytes_room, numbers_room};
-use answers::{Answer, MAX_EQUATIONS, MAX_VARIABLES};
-use peel_rules::report::StuckReport;
+use crate::rooms::Memory;
+use answers::{MAX_EQUATIONS, MAX_VARIABLES, Refusal};
 use peeling::numbers::Edge;
-
-// Whether the run may begin; if not, what is answered.
-#[derive(Clone, Copy)]
-pub struct Gate {
-    pub opened: bool,
-    pub refusal: Peeling,
-}
 
 // Whether the vertices of an edge are different and below n.
 pub fn keeps_rule(n: usize, e: Edge) -> bool
@@ -23,58 +14,33 @@ pub fn keeps_rule(n: usize, e: Edge) -> bool
     let a = e.a.0 as usize;
     let b = e.b.0 as usize;
     let c = e.c.0 as usize;
-    let below = (a < n) & ((b < n) & (c < n));
-    let apart = (a != b) & ((a != c) & (b != c));
-    below & apart
-}
-
-fn shut(answer: Answer) -> Gate
-    ensures { result ≡ shut answer }
-{
-    Gate {
-        opened: false,
-        refusal: Peeling {
-            answer,
-            report: StuckReport::none(),
-        },
-    }
+    let below = a < n && b < n && c < n;
+    let apart = a != b && a != c && b != c;
+    below && apart
 }
 
 // Tries the refusals 1, 3, 4 and 5: `cells`, `numbers` and `bytes` are the lengths that are lent, `bad` is the lowest edge that breaks its rule, m where there is none.
-pub fn judge(
-    high: bool,
+pub fn judge<M: Memory>(
     n: usize,
     m: usize,
     bad: usize,
     cells: usize,
     numbers: usize,
     bytes: usize,
-) -> Gate
-    ensures { result ≡ gate_of high n m bad cells numbers bytes }
+) -> Result<(), Refusal>
+    ensures { gate_by result ≡ gate_of M.high n m bad cells numbers bytes }
 {
-    if MAX_VARIABLES < n {
-        return shut(Answer::TooLarge);
-    }
-    if MAX_EQUATIONS < m {
-        return shut(Answer::TooLarge);
+    if MAX_VARIABLES < n || MAX_EQUATIONS < m {
+        return Err(Refusal::TooLarge);
     }
     if bad < m {
-        return shut(Answer::BadEntry(bad));
+        return Err(Refusal::BadEntry(bad));
     }
     if cells != n {
-        return shut(Answer::WrongSolution);
+        return Err(Refusal::WrongSolution);
     }
-    if numbers < numbers_room(high, n, m) {
-        return shut(Answer::ShortArea);
+    if numbers < M::numbers_room(n, m) || bytes < M::bytes_room(n, m) {
+        return Err(Refusal::ShortArea);
     }
-    if bytes < bytes_room(high, n, m) {
-        return shut(Answer::ShortArea);
-    }
-    Gate {
-        opened: true,
-        refusal: Peeling {
-            answer: Answer::Solved,
-            report: StuckReport::none(),
-        },
-    }
+    Ok(())
 }
