@@ -1,11 +1,22 @@
 -- A lookup's answer as the code hands it back, and its number and place.
-use Rattle.std.specs.Prelude.{◌≡◌, List, ℕ, length, leb}
+use Rattle.std.specs.Prelude.{◌≡◌, List, ℕ, Result, Ok, Err, length, leb}
+use Rattle.answers.specs.declared.refusal.Refusal.{Refusal}
+use Rattle.answers.specs.Answers.{Answer, Solved, refusal_of}
 use Rattle.answers.specs.Sizes.{max_variables}
 use Rattle.answers.specs.Calls.{pick}
 use Rattle.answers.specs.Numbers.{number_of, place_of}
 use Rattle.peel_rules.specs.Edges.{edge, is_valid}
 use Rattle.peel_rules.specs.Calls.{LookupCall}
-use Rattle.lookups.specs.declared.reading.Found.{Found}
+
+pub record Found : Type 0 where
+  pub answer : Answer
+  -- the XOR of the three cells, 0 with a refusal
+  pub bib : ℕ
+
+-- what the code's result of a lookup comes to
+abbrev pub found_by : Result ℕ Refusal → Found
+found_by (Ok bib) = record { answer = Solved; bib = bib }
+found_by (Err r) = record { answer = refusal_of r; bib = 0 }
 
 abbrev pub found_of : LookupCall → Found
 found_of c = record { answer = c.answer; bib = c.bib }
