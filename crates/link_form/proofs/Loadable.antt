@@ -6,9 +6,8 @@ use Prim.Native.Nat.{ℕ, ◌≤◌}
 use native.Mathlib.Omega.{arith}
 use lib.ListN.{length, drop}
 use Rattle.system.specs.Fits.{listed_in}
-use Rattle.link_form.specs.declared.scan.Form.TheVariants.{Described}
 use Rattle.link_form.specs.Bytes.{field}
-use Rattle.link_form.specs.File.{Link, max_bytes, header_bytes, width, kind_of, read_rows, read_file, form_of, rows_in, rows_at}
+use Rattle.link_form.specs.File.{Described, Link, max_bytes, header_bytes, width, kind_of, read_rows, read_file, form_of, rows_in, rows_at}
 use Rattle.link_form.proofs.Scanning.{length_rows}
 use Rattle.link_form.proofs.OneFile.{read_is}
 

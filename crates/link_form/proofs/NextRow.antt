@@ -4,30 +4,24 @@ use mathlib.Core.List.{List, [], ◌∷◌, ◌++◌}
 use mathlib.Core.Option.{some}
 use Prim.Native.Nat.{ℕ, suc, ◌+◌, ◌-◌, ◌≤◌, ◌<◌}
 use native.Mathlib.Omega.{arith}
-use lib.ListN.{length, take, drop, length-drop}
+use lib.ListN.{length, take, drop}
 use lib.Seq.{drop-drop, take-add}
 use Rattle.gf2.specs.Equation.{Equation}
 use Rattle.link_form.specs.File.{row_bytes, row, read_rows}
 use Rattle.link_form.proofs.RoundTrip.{taken}
 
 -- the row that is read next, and those after it
-pub record Next (bytes : List ℕ) (kind w m : ℕ) (rows : List Equation) (p i : ℕ) : Type 0 where
-  pub there : p + row_bytes kind w (drop p bytes) ≤ length bytes
-  pub reads : read_rows kind w (m - (i + 1)) (drop (p + row_bytes kind w (drop p bytes)) bytes) ≡ some (drop (i + 1) rows)
-  pub more : take (i + 1) rows ≡ take i rows ++ (row kind w (drop p bytes) ∷ [])
+pub record Next (bytes : List ℕ) (kind w m : ℕ) (rows : List Equation) (i : ℕ) : Type 0 where
+  pub there : row_bytes kind w bytes ≤ length bytes
+  pub reads : read_rows kind w (m - (i + 1)) (drop (row_bytes kind w bytes) bytes) ≡ some (drop (i + 1) rows)
+  pub more : take (i + 1) rows ≡ take i rows ++ (row kind w bytes ∷ [])
 
-pub next_row : (bytes : List ℕ) (kind w m : ℕ) (rows : List Equation) (p i : ℕ) → p ≤ length bytes → i < m → read_rows kind w (m - i) (drop p bytes) ≡ some (drop i rows)
-    → Next bytes kind w m rows p i
-next_row bytes kind w m rows p i g h e =
+pub next_row : (bytes : List ℕ) (kind w m : ℕ) (rows : List Equation) (i : ℕ) → i < m → read_rows kind w (m - i) bytes ≡ some (drop i rows) → Next bytes kind w m rows i
+next_row bytes kind w m rows i h e =
     let s : m - i ≡ suc (m - (i + 1)) = omega arith in
-    let t = taken kind w (m - (i + 1)) (drop p bytes) (drop i rows) (rw s at e) in
-    let b : ℕ = row_bytes kind w (drop p bytes) in
-    let l = length-drop p bytes in
+    let t = taken kind w (m - (i + 1)) bytes (drop i rows) (rw s at e) in
     record {
-      there = omega (arith, t.there);
-      reads =
-          ap (read_rows kind w (m - (i + 1))) (sym (drop-drop b p bytes))
-          ∙ t.reads
-          ∙ ap some (ap (drop 1) (sym t.all) ∙ drop-drop 1 i rows);
+      there = t.there;
+      reads = t.reads ∙ ap some (ap (drop 1) (sym t.all) ∙ drop-drop 1 i rows);
       more = take-add i 1 rows ∙ ap (λ (l : List Equation). take i rows ++ take 1 l) t.all;
     }

@@ -4,7 +4,7 @@ use mathlib.Core.Bool.{Bool, true, false}
 use mathlib.Core.List.{List, ◌∷◌, ◌++◌}
 use mathlib.Core.Logic.{◌↔◌}
 use mathlib.Core.Option.{Option, none, some}
-use Prim.Native.Nat.{ℕ, ◌+◌, ◌-◌, ◌%◌, ◌≤◌, ◌<◌}
+use Prim.Native.Nat.{ℕ, ◌+◌, ◌%◌, ◌≤◌, ◌<◌}
 use native.Mathlib.Omega.{arith}
 use lib.ListN.{length, drop, length-append, length-drop, take-append-drop}
 use lib.Seq.{take_at, drop-drop}
@@ -15,8 +15,7 @@ use Rattle.gf2.proofs.Each.{each_drop}
 use Rattle.gf2.proofs.Both.{both}
 use Rattle.areas.specs.Stretch.{stretch}
 use Rattle.link_form.specs.Bytes.{little, power, field, bytes_of}
-use Rattle.link_form.specs.File.{Link, max_bytes, header_bytes, width, mark, kind_of, sparse_kind, peel_kind, header_kept, described, read_rows, read_file, form_of, rows_out, write_file}
-use Rattle.link_form.specs.declared.scan.Form.TheVariants.{Malformed}
+use Rattle.link_form.specs.File.{Malformed, Link, max_bytes, header_bytes, width, mark, kind_of, sparse_kind, peel_kind, header_kept, described, read_rows, read_file, form_of, rows_out, write_file}
 use Rattle.link_form.specs.Fitting.{AllBytes, LinkFits}
 use Rattle.link_form.proofs.Numbers.{length_bytes_of, little_bytes_of, bytes_of_taken, taken_small}
 use Rattle.link_form.proofs.Scanning.{length_rows}

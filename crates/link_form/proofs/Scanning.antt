@@ -3,85 +3,35 @@ use mathlib.Core.Path.{◌≡◌, refl, sym, ap, ◌∙◌}
 use mathlib.Core.Bool.{Bool, true, false}
 use mathlib.Core.List.{List, [], ◌∷◌}
 use mathlib.Core.Option.{Option, none, some}
+use mathlib.Core.Logic.{◌⊎◌, inl, inr}
 use Prim.Native.Nat.{ℕ, zero, suc, ◌+◌, ◌-◌, ◌*◌, ◌≤◌, ◌<◌}
 use native.Mathlib.Nat.{le_refl, mul-le-mul, add_assoc}
 use native.Mathlib.Numerals.{add-one}
-use native.Mathlib.Decide.{dec_lt}
 use native.Mathlib.Omega.{arith}
-use lib.ListN.{length, drop, length-drop, drop_of_length-le}
+use lib.ListN.{length, take, drop, length-drop}
 use lib.Seq.{drop-drop}
 use lib.Dec.{eqb, leb}
-use borrow.Author.Tests.{eq-eqb, ne_eqb, le-leb, lt-leb}
+use borrow.Author.Tests.{le-leb, lt-leb}
 use Rattle.gf2.specs.Equation.{Equation}
-use Rattle.areas.specs.Stretch.{stretch}
 use Rattle.answers.specs.Calls.{pick}
 use Rattle.system.specs.Fits.{listed_in}
-use Rattle.link_form.specs.declared.scan.Row.TheVariants.{Missing, Whole}
-use Rattle.link_form.specs.declared.scan.Scan.TheVariants.{Broken, Listed}
-use Rattle.link_form.specs.Bytes.{power, field, fields}
-use Rattle.link_form.specs.File.{peel_kind, count_bytes, count, row_bytes, row, before, read_rows, row_at, scan_of}
+use Rattle.link_form.specs.declared.kind.Kind.{Kind}
+use Rattle.link_form.specs.declared.kind.Kind.TheVariants.{Sparse, Lazy, Peel}
+use Rattle.link_form.specs.declared.rows.Rows.{Rows}
+use Rattle.link_form.specs.Bytes.{little, power, fields}
+use Rattle.link_form.specs.File.{peel_kind, count_bytes, count, row_bytes, row, before, read_rows, Broken, Listed, scan_of}
+use Rattle.link_form.specs.Kinds.{number_of_kind}
+use Rattle.link_form.specs.Rows.{count_bytes_of, count_of, row_bytes_of, rows_of, Passed, PassedRow}
 
 -- ---- one row
 
-module _ (kind w p : ℕ) (bytes : List ℕ) where
-  pub count_edge : kind ≡ peel_kind → count kind w (drop p bytes) ≡ 3
-  unfolding count
-  count_edge e = simp (eq-eqb kind peel_kind e)
-
-  pub count_read : (kind ≡ peel_kind → ⊥) → count kind w (drop p bytes) ≡ field w p bytes
-  unfolding count stretch
-  count_read h = simp (ne_eqb kind peel_kind h)
-
-  pub head_short : count_bytes kind w ≤ w
-  head_short = go (eqb kind peel_kind)
-    where
-      go : (b : Bool) → pick b 0 w ≤ w
-      go true = omega arith
-      go false = le_refl w
-
-  pub head_read : (kind ≡ peel_kind → ⊥) → count_bytes kind w ≡ w
-  head_read h = simp (ne_eqb kind peel_kind h)
-
-  pub row_missing : length bytes - p < row_bytes kind w (drop p bytes) → row_at kind w p bytes ≡ Missing
-  unfolding row_at
-  row_missing h = simp (lt-leb (row_bytes kind w (drop p bytes)) (length bytes - p) h)
-
-  pub row_whole : row_bytes kind w (drop p bytes) ≤ length bytes - p
-      → row_at kind w p bytes ≡ Whole (p + row_bytes kind w (drop p bytes)) (count kind w (drop p bytes))
-  unfolding row_at
-  row_whole h = simp (le-leb (row_bytes kind w (drop p bytes)) (length bytes - p) h)
-
-  -- the count alone is missing
-  pub row_headless : length bytes - p < count_bytes kind w → row_at kind w p bytes ≡ Missing
-  row_headless h = row_missing (long h)
-    where
-      long : length bytes - p < count_bytes kind w → length bytes - p < row_bytes kind w (drop p bytes)
-      long h = unfold row_bytes in omega arith
-
-pub record IsWhole (kind w p : ℕ) (bytes : List ℕ) (next k : ℕ) : Type 0 where
-  pub fits : row_bytes kind w (drop p bytes) ≤ length bytes - p
-  pub ends : next ≡ p + row_bytes kind w (drop p bytes)
-  pub counts : k ≡ count kind w (drop p bytes)
-
-pub whole_is : (kind w p : ℕ) (bytes : List ℕ) (next k : ℕ) → row_at kind w p bytes ≡ Whole next k → IsWhole kind w p bytes next k
-whole_is kind w p bytes next k e = go (dec_lt (length bytes - p) (row_bytes kind w (drop p bytes)))
-  where
-    go : Dec (length bytes - p < row_bytes kind w (drop p bytes)) → IsWhole kind w p bytes next k
-    go (yes h) = absurd (let m = row_missing kind w p bytes h in let z : ◌≡◌ {A = ℕ} 0 1 = cc in omega arith)
-    go (no h) =
-        let f : row_bytes kind w (drop p bytes) ≤ length bytes - p = omega arith in
-        let q = row_whole kind w p bytes f in
-        record { fits = f; ends = cc; counts = cc }
-
-pub missing_is : (kind w p : ℕ) (bytes : List ℕ) → row_at kind w p bytes ≡ Missing → length bytes - p < row_bytes kind w (drop p bytes)
-missing_is kind w p bytes e = go (dec_lt (length bytes - p) (row_bytes kind w (drop p bytes)))
-  where
-    go : Dec (length bytes - p < row_bytes kind w (drop p bytes)) → length bytes - p < row_bytes kind w (drop p bytes)
-    go (yes h) = h
-    go (no h) =
-        let f : row_bytes kind w (drop p bytes) ≤ length bytes - p = omega arith in
-        let q = row_whole kind w p bytes f in
-        absurd (let z : ◌≡◌ {A = ℕ} 0 1 = cc in omega arith)
+-- a row that says how many variables it lists
+pub counted : (kind : Kind) (w : ℕ) (bytes : List ℕ) → (kind ≡ Sparse) ⊎ (kind ≡ Lazy)
+    → (count (number_of_kind kind) w bytes ≡ little (take w bytes)) × (count_bytes (number_of_kind kind) w ≡ w)
+unfolding count
+counted Sparse w bytes h = (refl, refl)
+counted Lazy w bytes h = (refl, refl)
+counted Peel w bytes h = elim h [ inl e ↦ absurd (cc) | inr e ↦ absurd (cc) ]
 
 -- four bytes hold less than 2 ^ 32, so a row's length fits
 pub size_fits : (h k w : ℕ) → h ≤ w → w ≤ 4 → k < power 4 → (k * w ≤ 17179869180) × (h + k * w + 8 ≤ 17179869192)
@@ -90,6 +40,16 @@ size_fits h k w g f l =
     let b : k ≤ 4294967295 = omega arith in
     let m : k * w ≤ 4294967295 * 4 = mul-le-mul b f in
     (omega arith, omega arith)
+
+-- the row behind its count
+pub row_rest : (old now : Rows) (listed : ℕ) → listed ≡ count_of old → count_bytes_of old ≤ length old.rest.now → Passed (count_bytes_of old) old now
+    → (row_bytes_of old ≡ count_bytes_of old + (listed * now.width + 8)) × (drop (listed * now.width + 8) now.rest.now ≡ drop (row_bytes_of old) old.rest.now)
+    × (length now.rest.now + count_bytes_of old ≡ length old.rest.now)
+unfolding row_bytes
+row_rest old now listed e h p =
+    let b : row_bytes_of old ≡ count_bytes_of old + (listed * now.width + 8) = rw (e, p.width) (add_assoc (count_bytes_of old) (count_of old * old.width) 8) in
+    let d = length-drop (count_bytes_of old) old.rest.now in
+    (b, rw (b, p.rest) (drop-drop (listed * now.width + 8) (count_bytes_of old) old.rest.now), rw p.rest (omega arith))
 
 -- ---- all rows
 
@@ -119,69 +79,63 @@ length_rows kind w (suc m) bytes rows e =
     go true q f = inner (read_rows kind w m (drop (row_bytes kind w bytes) bytes)) q f
     go false q f = absurd (let z : ◌≡◌ {A = ℕ} 0 1 = cc in omega arith)
 
-rows_missing : (kind w k p : ℕ) (bytes : List ℕ) → length bytes - p < row_bytes kind w (drop p bytes) → read_rows kind w (k + 1) (drop p bytes) ≡ none
+rows_missing : (kind w k : ℕ) (bytes : List ℕ) → length bytes < row_bytes kind w bytes → read_rows kind w (k + 1) bytes ≡ none
 unfolding read_rows
-rows_missing kind w k p bytes h =
-    rw (add-one, lt-leb (row_bytes kind w (drop p bytes)) (length (drop p bytes)) (let e = length-drop p bytes in omega arith), read_rows)
+rows_missing kind w k bytes h = rw (add-one, lt-leb (row_bytes kind w bytes) (length bytes) h, read_rows)
 
-rows_whole : (kind w k p : ℕ) (bytes : List ℕ) → row_bytes kind w (drop p bytes) ≤ length bytes - p
-    → read_rows kind w (k + 1) (drop p bytes) ≡ before (row kind w (drop p bytes)) (read_rows kind w k (drop (p + row_bytes kind w (drop p bytes)) bytes))
+rows_whole : (kind w k : ℕ) (bytes : List ℕ) → row_bytes kind w bytes ≤ length bytes
+    → read_rows kind w (k + 1) bytes ≡ before (row kind w bytes) (read_rows kind w k (drop (row_bytes kind w bytes) bytes))
 unfolding read_rows
-rows_whole kind w k p bytes h =
-    rw (add-one, le-leb (row_bytes kind w (drop p bytes)) (length (drop p bytes)) (let e = length-drop p bytes in omega arith), read_rows)
-    (ap (λ (l : List ℕ). before (row kind w (drop p bytes)) (read_rows kind w k l)) (drop-drop (row_bytes kind w (drop p bytes)) p bytes))
+rows_whole kind w k bytes h = rw (add-one, le-leb (row_bytes kind w bytes) (length bytes) h, read_rows)
 
 scan_before : (t : ℕ) (r : Equation) (o : Option (List Equation)) → scan_of t (before r o) ≡ scan_of (t + length r.vars) o
 unfolding listed_in
 scan_before t r none = refl
 scan_before t r (some rows) = ap Listed (sym (add_assoc t (length r.vars) (listed_in rows)))
 
--- i of m rows are gone through: they end at p and list t variables
-pub record Scanning (bytes : List ℕ) (kind w m at p t i : ℕ) : Type 0 where
-  pub wide : 1 ≤ w
-  pub done : i ≤ m
-  pub inside : p ≤ length bytes
-  pub few : t ≤ p
-  pub so_far : scan_of t (read_rows kind w (m - i) (drop p bytes)) ≡ scan_of 0 (read_rows kind w m (drop at bytes))
-
-pub scanning_begin : (bytes : List ℕ) (kind w m at : ℕ) → 1 ≤ w → at ≤ length bytes → Scanning bytes kind w m at at 0 0
-scanning_begin bytes kind w m at g h =
-    let e : m - 0 ≡ m = omega arith in
-    record { wide = g; done = omega arith; inside = h; few = omega arith; so_far = rw e }
-
-pub scanning_broken : {bytes : List ℕ} {kind w m at p t i : ℕ} → Scanning bytes kind w m at p t i → i < m → row_at kind w p bytes ≡ Missing
-    → Broken ≡ scan_of 0 (read_rows kind w m (drop at bytes))
-scanning_broken {bytes} {kind} {w} {m} {at} {p} {t} {i} s h q =
-    let e : m - i ≡ (m - i - 1) + 1 = omega arith in
-    rw (e, rows_missing kind w (m - i - 1) p bytes (missing_is kind w p bytes q)) at s.so_far
-
-pub listed_fits : (kind w p : ℕ) (bytes : List ℕ) → 1 ≤ w → count kind w (drop p bytes) ≤ row_bytes kind w (drop p bytes)
-unfolding row_bytes
-listed_fits kind w p bytes h =
-    let k = count kind w (drop p bytes) in
-    let g : count kind w (drop p bytes) * 1 ≤ count kind w (drop p bytes) * w = mul-le-mul (le_refl (count kind w (drop p bytes))) h in
+-- no row lists more variables than it has bytes
+pub listed_fits : (kind w : ℕ) (bytes : List ℕ) → count kind w bytes ≤ row_bytes kind w bytes
+unfolding row_bytes count little
+listed_fits kind zero bytes =
+    few (eqb kind peel_kind)
+  where
+    few : (edge : Bool) → pick edge 3 (little []) ≤ pick edge 0 0 + pick edge 3 (little []) * 0 + 8
+    few true = omega arith
+    few false = omega arith
+listed_fits kind (suc w) bytes =
+    let g : count kind (suc w) bytes * 1 ≤ count kind (suc w) bytes * suc w = mul-le-mul (le_refl (count kind (suc w) bytes)) (omega arith) in
     omega arith
 
-pub scanning_turn : {bytes : List ℕ} {kind w m at p t i next k : ℕ} → Scanning bytes kind w m at p t i → i < m → row_at kind w p bytes ≡ Whole next k
-    → Scanning bytes kind w m at next (t + k) (i + 1)
-scanning_turn {bytes} {kind} {w} {m} {at} {p} {t} {i} {next} {k} s h q =
-    let v = whole_is kind w p bytes next k q in
-    let f = v.fits in
-    let n = v.ends in
-    let c = v.counts in
-    let g = listed_fits kind w p bytes s.wide in
-    let a = s.inside in
-    let b = s.few in
+-- i of m rows are gone through: they list t variables
+pub record Scanning (begin now : Rows) (m t i : ℕ) : Type 0 where
+  pub few : t + length now.rest.now ≤ length begin.rest.now
+  pub so_far : scan_of t (rows_of (m - i) now) ≡ scan_of 0 (rows_of m begin)
+
+pub scanning_begin : (r : Rows) (m : ℕ) → Scanning r r m 0 0
+scanning_begin r m = let e : m - 0 ≡ m = omega arith in record { few = omega arith; so_far = rw e }
+
+pub scanning_broken : {begin now : Rows} {m t i : ℕ} → Scanning begin now m t i → i < m → length now.rest.now < row_bytes_of now → Broken ≡ scan_of 0 (rows_of m begin)
+scanning_broken {begin} {now} {m} {t} {i} s h q =
+    let e : m - i ≡ (m - i - 1) + 1 = omega arith in
+    rw (e, rows_missing (number_of_kind now.kind) now.width (m - i - 1) now.rest.now q) at s.so_far
+
+pub scanning_turn : {begin now next : Rows} {m t i listed : ℕ} → Scanning begin now m t i → i < m → PassedRow now next listed → Scanning begin next m (t + listed) (i + 1)
+scanning_turn {begin} {now} {next} {m} {t} {i} {listed} s h p =
+    let kind = number_of_kind now.kind in
+    let w = now.width in
+    let bytes = now.rest.now in
+    let g = listed_fits (number_of_kind now.kind) now.width now.rest.now in
+    let a = s.few in
+    let l = p.listed_is in
+    let d = length-drop (row_bytes_of now) now.rest.now in
+    let q = p.passed in
     let e : m - i ≡ (m - (i + 1)) + 1 = omega arith in
     record {
-      wide = s.wide;
-      done = omega arith;
-      inside = omega arith;
-      few = omega arith;
+      few = rw q.rest (omega (arith, p.there));
       so_far =
-          rw (n, c, ← (length_row kind w (drop p bytes)))
-          (sym (scan_before t (row kind w (drop p bytes)) (read_rows kind w (m - (i + 1)) (drop (p + row_bytes kind w (drop p bytes)) bytes)))
-          ∙ ap (scan_of t) (sym (rows_whole kind w (m - (i + 1)) p bytes f)) ∙ rw e at s.so_far);
+          rw (q.kind, q.width, q.rest, l, ← (length_row (number_of_kind now.kind) now.width now.rest.now))
+          (sym (scan_before t (row (number_of_kind now.kind) now.width now.rest.now) (read_rows (number_of_kind now.kind) now.width (m - (i + 1)) (drop (row_bytes_of now) now.rest.now)))
+          ∙ ap (scan_of t) (sym (rows_whole (number_of_kind now.kind) now.width (m - (i + 1)) now.rest.now p.there)) ∙ rw e at s.so_far);
     }
 
 rows_left : (kind w : ℕ) (bytes : List ℕ) → 0 < length bytes → read_rows kind w 0 bytes ≡ none
@@ -189,16 +143,19 @@ unfolding read_rows
 rows_left kind w [] h = absurd (omega arith)
 rows_left kind w (b ∷ bytes) h = refl
 
-pub scanning_left : {bytes : List ℕ} {kind w m at p t i : ℕ} → Scanning bytes kind w m at p t i → m ≤ i → p < length bytes
-    → Broken ≡ scan_of 0 (read_rows kind w m (drop at bytes))
-scanning_left {bytes} {kind} {w} {m} {at} {p} {t} {i} s h g =
-    let e : m - i ≡ 0 = omega arith in
-    rw (e, rows_left kind w (drop p bytes) (let q = length-drop p bytes in omega arith)) at s.so_far
+rows_none : (kind w : ℕ) (bytes : List ℕ) → length bytes ≡ 0 → read_rows kind w 0 bytes ≡ some []
+unfolding read_rows
+rows_none kind w [] h = refl
+rows_none kind w (b ∷ bytes) h = absurd (omega arith)
 
-pub scanning_end : {bytes : List ℕ} {kind w m at p t i : ℕ} → Scanning bytes kind w m at p t i → m ≤ i → length bytes ≤ p
-    → Listed t ≡ scan_of 0 (read_rows kind w m (drop at bytes))
-unfolding read_rows listed_in
-scanning_end {bytes} {kind} {w} {m} {at} {p} {t} {i} s h g =
+pub scanning_left : {begin now : Rows} {m t i : ℕ} → Scanning begin now m t i → m ≤ i → 0 < length now.rest.now → Broken ≡ scan_of 0 (rows_of m begin)
+scanning_left {begin} {now} {m} {t} {i} s h g =
+    let e : m - i ≡ 0 = omega arith in
+    rw (e, rows_left (number_of_kind now.kind) now.width now.rest.now g) at s.so_far
+
+pub scanning_end : {begin now : Rows} {m t i : ℕ} → Scanning begin now m t i → m ≤ i → length now.rest.now ≡ 0 → Listed t ≡ scan_of 0 (rows_of m begin)
+unfolding listed_in
+scanning_end {begin} {now} {m} {t} {i} s h g =
     let e : m - i ≡ 0 = omega arith in
     let z : t + 0 ≡ t = omega arith in
-    ap Listed (sym z) ∙ rw (e, drop_of_length-le bytes g) at s.so_far
+    ap Listed (sym z) ∙ rw (e, rows_none (number_of_kind now.kind) now.width now.rest.now g) at s.so_far

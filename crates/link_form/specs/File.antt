@@ -1,15 +1,9 @@
 -- A link file: its header, and rows of variables with a constant. An edge is a row of three variables.
-use Rattle.std.specs.Prelude.{List, [], ◌∷◌, ◌++◌, Bool, true, false, ◌&&◌, ℕ, zero, suc, ◌+◌, ◌-◌, ◌*◌, length, take, drop, eqb, leb}
+use Rattle.std.specs.Prelude.{List, [], ◌∷◌, ◌++◌, Bool, true, false, ◌&&◌, ℕ, zero, suc, ◌+◌, ◌*◌, length, take, drop, eqb, leb}
 use Rattle.std.proofs.Math.Option.{Option, none, some}
 use Rattle.gf2.specs.Equation.{Equation, eqn}
 use Rattle.answers.specs.Calls.{pick}
 use Rattle.system.specs.Fits.{listed_in}
-use Rattle.link_form.specs.declared.scan.Scan.{Scan}
-use Rattle.link_form.specs.declared.scan.Scan.TheVariants.{Broken, Listed}
-use Rattle.link_form.specs.declared.scan.Row.{Row}
-use Rattle.link_form.specs.declared.scan.Row.TheVariants.{Missing, Whole}
-use Rattle.link_form.specs.declared.scan.Form.{Form}
-use Rattle.link_form.specs.declared.scan.Form.TheVariants.{Malformed, Described}
 use Rattle.link_form.specs.Bytes.{little, field, fields, bytes_of, all_bytes}
 
 -- the longest file
@@ -110,12 +104,15 @@ read_file bytes =
 
 -- ---- what is known of a file before its rows are kept
 
--- the row at p of the bytes: where it ends and how many variables it lists, if it is all there
-unfoldable pub row_at : ℕ → ℕ → ℕ → List ℕ → Row
-row_at kind w p bytes =
-    pick (leb (row_bytes kind w (drop p bytes)) (length bytes - p))
-    (Whole (p + row_bytes kind w (drop p bytes)) (count kind w (drop p bytes)))
-    Missing
+-- how many variables the rows list, if all are there and nothing is left over
+pub data Scan : Type 0 where
+  Broken : Scan
+  Listed : ℕ → Scan
+
+-- what a file describes: its kind, n, m and t
+pub data Form : Type 0 where
+  Malformed : Form
+  Described : ℕ → ℕ → ℕ → ℕ → Form
 
 -- how many variables m rows list besides t others
 abbrev pub scan_of : ℕ → Option (List Equation) → Scan

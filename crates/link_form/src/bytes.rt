@@ -2,23 +2,15 @@
 ghost use Rattle.std.specs.Prelude.{◌≡◌, ◌+◌, ◌≤◌, ◌<◌, length};
 ghost use Rattle.link_form.specs.Bytes.{field, power};
 
-fn wide(b: u8) -> u64
-    ensures { result ≡ b }
-{
-    b as u64
-}
-
 // The number in the `w` bytes from `at` on, from its high byte down.
 pub fn read_number(bytes: &[u8], at: usize, w: usize) -> u64
     requires { (at + w ≤ length bytes.now) × (w ≤ 8) }
     ensures value { result ≡ field w at bytes.now }
     ensures upper_bound { result < power w }
 {
-    let mut number: u64 = 0;
-    let mut k = w;
-    while k > 0 {
-        k -= 1;
-        number = number * 256 + wide(bytes[at + k]);
+    let mut number = 0;
+    for k in (0..w).rev() {
+        number = number * 256 + u64::from(bytes[at + k]);
     }
     number
 }

@@ -1,6 +1,9 @@
 // What the file program serves and lends.
 ghost use Rattle.std.specs.Prelude.{◌≡◌};
-ghost use Rattle.link_form.specs.Lent.{sizes_served};
+ghost use Rattle.link_form.specs.Lent.{sizes_served, Served};
+ghost use Rattle.link_form.specs.Kinds.{number_of_kind};
+
+use crate::form::Form;
 
 // The largest n, m and t that are served.
 pub const MOST_VARIABLES: usize = 512;
@@ -15,9 +18,19 @@ pub const LENT_WORDS: usize = 512;
 
 pub const LENT_BYTES: usize = 1024;
 
-// Whether no size is above the largest.
-pub fn sizes_served(n: usize, m: usize, t: usize) -> bool
-    ensures { result ≡ sizes_served n m t }
-{
-    (n <= MOST_VARIABLES) & ((m <= MOST_ROWS) & (t <= MOST_LISTED))
+impl Form {
+    // Whether no size is above the largest.
+    pub fn is_served(&self) -> bool
+        ensures { result ≡ sizes_served self.now.n self.now.m self.now.t }
+    {
+        self.n <= MOST_VARIABLES && self.m <= MOST_ROWS && self.t <= MOST_LISTED
+    }
+}
+
+// A file that is served: whole, and no size above the largest.
+#[derive(Clone, Copy)]
+pub struct ServedFile<'a> {
+    pub bytes: &'a [u8],
+    pub form: Form,
+    ghost served: { Served (number_of_kind form.kind) form.n form.m bytes.now },
 }

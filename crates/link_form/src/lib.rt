@@ -2,13 +2,15 @@
 #![tactic(auto)]
 
 mod bytes;
+mod form;
+mod kind;
 mod lent;
-mod scan;
+mod rows;
 
 pub use bytes::read_number;
+pub use form::{Form, MAX_BYTES, VERSION, read_form};
+pub use kind::Kind;
 pub use lent::{
-    LENT_BYTES, LENT_NUMBERS, LENT_WORDS, MOST_LISTED, MOST_ROWS, MOST_VARIABLES, sizes_served,
+    LENT_BYTES, LENT_NUMBERS, LENT_WORDS, MOST_LISTED, MOST_ROWS, MOST_VARIABLES, ServedFile,
 };
-pub use scan::{
-    Form, HEADER_BYTES, LAZY, MAX_BYTES, PEEL, SPARSE, WIDTH, count_at, count_bytes, read_form,
-};
+pub use rows::Rows;
