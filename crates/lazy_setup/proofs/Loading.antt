@@ -9,7 +9,7 @@ use native.Mathlib.Numerals.{sub-one}
 use native.Mathlib.Omega.{arith}
 use native.Mathlib.Decide.{dec_lt}
 use borrow.Author.Tests.{le-leb, lt-leb, lt-ltb, le-ltb}
-use lib.ListN.{length, take, drop, get_or, set, replicate, length-append, length-replicate, length-set, length-map, take-append-drop, get_or-replicate}
+use lib.ListN.{length, drop, get_or, set, replicate, length-append, length-replicate, length-set, length-map, take-append-drop, get_or-replicate}
 use lib.Dec.{ltb, leb}
 use Rattle.gf2.specs.Equation.{Equation}
 use Rattle.gf2.specs.NumberLists.{up_from, down_from, keep}
@@ -18,7 +18,7 @@ use Rattle.gf2.proofs.SymDiff.{rising_length}
 use Rattle.gf2.proofs.Selecting.{length-keep}
 use Rattle.areas.specs.Rows.{laid, Narrow}
 use Rattle.areas.specs.Stretch.{stretch, put}
-use Rattle.areas.proofs.Stretch.{length-stretch, get_or-stretch, put_none, put_more, get_or-put_before, length-put}
+use Rattle.areas.proofs.Stretch.{get_or-stretch, put_none, put_more, get_or-put_before, length-put}
 use Rattle.areas.proofs.Rows.{length_laid, laid_empty, padded_full, put_row}
 use Rattle.areas.proofs.Offsets.{row_before}
 use Rattle.system.specs.System.{equation_at, equations}
@@ -43,23 +43,23 @@ table_of f es = is_table [] (λ e. f (row_of es e)) (length es) (map f es) (leng
 unfoldable pub rows_up_to : List Equation → ℕ → List (List ℕ)
 rows_up_to es i = map (λ e. cond (ltb e i) (row_of es e).vars []) (up_from 0 (length es))
 
-pub record Loading (n m : ℕ) (starts vars : List ℕ) (l : List ℕ) (i : ℕ) (area : List ℕ) : Type 0 where
-  pub fits : Fits n m starts vars (replicate m 0)
+pub record Loading (n m : ℕ) (starts vars constants : List ℕ) (l : List ℕ) (i : ℕ) (area : List ℕ) : Type 0 where
+  pub fits : Fits n m starts vars constants
   pub inside : i ≤ m
   pub room : m * n ≤ length l
   pub long : length area ≡ length l
-  pub shown : area ≡ laid n (rows_up_to (equations m starts vars (replicate m 0)) i) ++ drop (m * n) l
+  pub shown : area ≡ laid n (rows_up_to (equations m starts vars constants) i) ++ drop (m * n) l
 
-module _ {n m : ℕ} {starts vars : List ℕ} (f : Fits n m starts vars (replicate m 0)) where
+module _ {n m : ℕ} {starts vars constants : List ℕ} (f : Fits n m starts vars constants) where
   es : List Equation
-  es = equations m starts vars (replicate m 0)
+  es = equations m starts vars constants
 
-  row_is : (i : ℕ) → i < m → row_of es i ≡ equation_at starts vars (replicate m 0) i
+  row_is : (i : ℕ) → i < m → row_of es i ≡ equation_at starts vars constants i
   unfolding es
-  row_is i h = equations_at starts vars (replicate m 0) m i blank h
+  row_is i h = equations_at starts vars constants m i blank h
 
   row_short : (i : ℕ) → i < m → length (row_of es i).vars ≤ n
-  row_short i h = let r = rising_length 0 n (equation_at starts vars (replicate m 0) i).vars (omega arith) (f.rising i h) in rw (row_is i h) (omega arith)
+  row_short i h = let r = rising_length 0 n (equation_at starts vars constants i).vars (omega arith) (f.rising i h) in rw (row_is i h) (omega arith)
 
   many_rows : (i : ℕ) → length (rows_up_to es i) ≡ m
   unfolding rows_up_to es
@@ -98,14 +98,14 @@ module _ {n m : ℕ} {starts vars : List ℕ} (f : Fits n m starts vars (replica
       test e r (yes h) = lt-ltb e i h ∙ sym (lt-ltb e (i + 1) (omega arith))
       test e r (no h) = le-ltb e i (omega arith) ∙ sym (le-ltb e (i + 1) (omega arith))
 
-pub length_rows : {n m : ℕ} {starts vars : List ℕ} → Fits n m starts vars (replicate m 0) → length (rows_of n (equations m starts vars (replicate m 0))) ≡ m * n
+pub length_rows : {n m : ℕ} {starts vars constants : List ℕ} → Fits n m starts vars constants → length (rows_of n (equations m starts vars constants)) ≡ m * n
 unfolding es
 length_rows {n} {m} f = ap (λ (r : List (List ℕ)). length (laid n r)) (sym (all_rows f)) ∙ length_laid n (rows_up_to (es f) m) (narrow_rows f m) ∙ ap (λ (k : ℕ). k * n) (many_rows f m)
 
-pub loading_begin : (n m : ℕ) (starts vars l : List ℕ) → Fits n m starts vars (replicate m 0) → m * n ≤ length l → stretch 0 (m * n) l ≡ replicate (m * n) 0
-    → Loading n m starts vars l 0 l
+pub loading_begin : (n m : ℕ) (starts vars constants l : List ℕ) → Fits n m starts vars constants → m * n ≤ length l → stretch 0 (m * n) l ≡ replicate (m * n) 0
+    → Loading n m starts vars constants l 0 l
 unfolding es stretch
-loading_begin n m starts vars l f h z =
+loading_begin n m starts vars constants l f h z =
     record {
       fits = f;
       inside = omega arith;
@@ -114,38 +114,31 @@ loading_begin n m starts vars l f h z =
       shown = sym (take-append-drop (m * n) l) ∙ ap (λ (s : List ℕ). s ++ drop (m * n) l) (z ∙ sym (laid_empty n m) ∙ ap (laid n) (sym (no_rows f)));
     }
 
-pub loading_fits : {n m : ℕ} {starts vars l : List ℕ} {i : ℕ} {area : List ℕ} → Loading n m starts vars l i area → i < m
-    → (get_or starts i 0 ≤ get_or starts (i + 1) 0) × (get_or starts (i + 1) 0 ≤ length vars) × (length starts ≡ m + 1) × (i * n + (get_or starts (i + 1) 0 - get_or starts i 0) ≤ length area) × (i * n ≤ m * n)
-loading_fits {n} {m} {starts} {vars} {l} {i} {area} s h =
-    let f = s.fits in
-    let c = f.climbing i (i + 1) (omega arith) (omega arith) in
-    let w = f.within (i + 1) (omega arith) in
-    let z = length-stretch (get_or starts i 0) (get_or starts (i + 1) 0 - get_or starts i 0) vars (omega arith) in
-    let r : length (stretch (get_or starts i 0) (get_or starts (i + 1) 0 - get_or starts i 0) vars) + 0 ≤ n = unfold equation_at in rising_length 0 n (equation_at starts vars (replicate m 0) i).vars (omega arith) (f.rising i h) in
+pub loading_fits : {n m : ℕ} {starts vars constants l : List ℕ} {i : ℕ} {area : List ℕ} → Loading n m starts vars constants l i area → i < m
+    → i * n + length (equation_at starts vars constants i).vars ≤ length area
+loading_fits {n} {m} {starts} {vars} {constants} {i = i} s h =
+    let r : length (equation_at starts vars constants i).vars + 0 ≤ n = rising_length 0 n (equation_at starts vars constants i).vars (omega arith) (s.fits.rising i h) in
     let b = row_before i m n h in
     let g = s.long in let k = s.room in
-    (c, w, f.starts_long, omega arith, omega arith)
+    omega arith
 
-pub loading_turn : {n m : ℕ} {starts vars l : List ℕ} {i : ℕ} {area : List ℕ} → Loading n m starts vars l i area → i < m → (area' : List ℕ)
-    → area' ≡ put (i * n) (take (get_or starts (i + 1) 0 - get_or starts i 0) (drop (get_or starts i 0) vars)) area → Loading n m starts vars l (i + 1) area'
-unfolding es equation_at stretch
-loading_turn {n} {m} {starts} {vars} {l} {i} {area} s h area' q =
+pub loading_turn : {n m : ℕ} {starts vars constants l : List ℕ} {i : ℕ} {area : List ℕ} → Loading n m starts vars constants l i area → i < m → (area' : List ℕ)
+    → area' ≡ put (i * n) (equation_at starts vars constants i).vars area → Loading n m starts vars constants l (i + 1) area'
+unfolding es
+loading_turn {n} {m} {starts} {vars} {constants} {l} {i} {area} s h area' q =
     record {
       fits = s.fits;
       inside = omega arith;
       room = s.room;
-      long = ap (λ (t : List ℕ). length t) q ∙ length-put (i * n) vs area (let b = loading_fits s h in let z = size in omega arith) ∙ s.long;
+      long = ap (λ (t : List ℕ). length t) q ∙ length-put (i * n) vs area (loading_fits s h) ∙ s.long;
       shown = q ∙ ap (put (i * n) vs) s.shown ∙ written;
     }
   where
-    f : Fits n m starts vars (replicate m 0)
+    f : Fits n m starts vars constants
     f = s.fits
 
     vs : List ℕ
-    vs = take (get_or starts (i + 1) 0 - get_or starts i 0) (drop (get_or starts i 0) vars)
-
-    size : length vs ≡ get_or starts (i + 1) 0 - get_or starts i 0
-    size = let b = loading_fits s h in length-stretch (get_or starts i 0) (get_or starts (i + 1) 0 - get_or starts i 0) vars (omega arith)
+    vs = (equation_at starts vars constants i).vars
 
     row : (row_of (es f) i).vars ≡ vs
     row = ap (λ (r : Equation). r.vars) (row_is f i h)
@@ -164,14 +157,14 @@ loading_turn {n} {m} {starts} {vars} {l} {i} {area} s h area' q =
         ∙ put_row n i (length vs) vs (rows_up_to (es f) i) (drop (m * n) l) (narrow_rows f i) (omega arith) (omega arith) (omega arith) short
         ∙ ap (λ (t : List (List ℕ)). laid n t ++ drop (m * n) l) (ap (set (rows_up_to (es f) i) i) (sym row) ∙ next_row f i h)
 
-pub loading_end : {n m : ℕ} {starts vars l : List ℕ} {i : ℕ} {area : List ℕ} → Loading n m starts vars l i area → m ≤ i
-    → area ≡ put 0 (rows_of n (equations m starts vars (replicate m 0))) l
+pub loading_end : {n m : ℕ} {starts vars constants l : List ℕ} {i : ℕ} {area : List ℕ} → Loading n m starts vars constants l i area → m ≤ i
+    → area ≡ put 0 (rows_of n (equations m starts vars constants)) l
 unfolding es put
-loading_end {n} {m} {starts} {vars} {l} {i} {area} s h =
+loading_end {n} {m} {starts} {vars} {constants} {l} {i} {area} s h =
     let q : i ≡ m = let w = s.inside in omega arith in
-    s.shown ∙ ap (λ (k : ℕ). laid n (rows_up_to (equations m starts vars (replicate m 0)) k) ++ drop (m * n) l) q
+    s.shown ∙ ap (λ (k : ℕ). laid n (rows_up_to (equations m starts vars constants) k) ++ drop (m * n) l) q
     ∙ ap (λ (t : List (List ℕ)). laid n t ++ drop (m * n) l) (all_rows s.fits)
-    ∙ ap (λ (k : ℕ). rows_of n (equations m starts vars (replicate m 0)) ++ drop k l) (sym (zero-add (length (rows_of n (equations m starts vars (replicate m 0)))) ∙ length_rows s.fits))
+    ∙ ap (λ (k : ℕ). rows_of n (equations m starts vars constants) ++ drop k l) (sym (zero-add (length (rows_of n (equations m starts vars constants))) ∙ length_rows s.fits))
 
 -- ---- lengths and marks
 

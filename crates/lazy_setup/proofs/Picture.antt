@@ -11,11 +11,9 @@ use Rattle.gf2.specs.NumberLists.{up_from, down_from, keep, count}
 use Rattle.gf2.specs.ByNumber.{row_of, blank}
 use Rattle.gf2.proofs.Selecting.{length-keep, length_up}
 use Rattle.areas.specs.Rows.{padded, laid}
-use Rattle.areas.specs.Stretch.{stretch}
-use Rattle.areas.specs.Segments.{joined}
 use Rattle.areas.proofs.Rows.{padded-nil}
 use Rattle.areas.proofs.Stretch.{length-stretch}
-use Rattle.system.specs.System.{equation_at, equations_from, equations}
+use Rattle.system.specs.System.{equation_at, equations}
 use Rattle.system.specs.Fits.{Fits}
 use Rattle.system.proofs.Reading.{equations_at}
 use Rattle.lazy.specs.Lazy.{listing, heaviest, start}
@@ -23,20 +21,7 @@ use Rattle.lazy_setup.specs.Area.{mark, lengths, rows_of, lists_from, dense_part
 use Rattle.lazy_setup.specs.Tables.{tallies, running, spans, firsts}
 use Rattle.lazy_setup.proofs.Tables.{is_table, same_table}
 use Rattle.lazy_setup.proofs.Sorting.{reverse-keep}
-use Rattle.lazy_setup.proofs.Holding.{owners, shelves, filled_lists, begins_are, weights_are, weight_counts}
-
--- ---- the constants do not matter
-
-rows_any : (k i : ℕ) (starts vars c d : List ℕ) → map (λ r. r.vars) (equations_from k i starts vars c) ≡ map (λ r. r.vars) (equations_from k i starts vars d)
-unfolding equations_from equation_at
-rows_any zero i starts vars c d = refl
-rows_any (suc k) i starts vars c d = ap (λ (l : List (List ℕ)). stretch (get_or starts i 0) (get_or starts (i + 1) 0 - get_or starts i 0) vars ∷ l) (rows_any k (i + 1) starts vars c d)
-
-owners_any : (k i e : ℕ) (starts vars c d : List ℕ) → owners e (equations_from k i starts vars c) ≡ owners e (equations_from k i starts vars d)
-unfolding equations_from equation_at owners
-owners_any zero i e starts vars c d = refl
-owners_any (suc k) i e starts vars c d =
-    ap (λ (l : List ℕ). replicate (length (stretch (get_or starts i 0) (get_or starts (i + 1) 0 - get_or starts i 0) vars)) e ++ l) (owners_any k (i + 1) (suc e) starts vars c d)
+use Rattle.lazy_setup.proofs.Holding.{begins_are, weights_are, weight_counts}
 
 map_marks : (n : ℕ) → map mark (replicate n true) ≡ replicate n 1
 map_marks zero = refl
@@ -44,11 +29,11 @@ map_marks (suc n) = ap (λ (l : List ℕ). 1 ∷ l) (map_marks n)
 
 -- ---- what the code makes
 
-unfoldable pub made_segments : ℕ → ℕ → List ℕ → List ℕ → List (List ℕ)
-made_segments n m starts vars =
-    rows_of n (equations m starts vars (replicate m 0))
+unfoldable pub made_segments : ℕ → ℕ → List ℕ → List ℕ → List ℕ → List (List ℕ)
+made_segments n m starts vars constants =
+    rows_of n (equations m starts vars constants)
     ∷ spans m starts
-    ∷ lists_from (equations m starts vars (replicate m 0)) 0 n
+    ∷ lists_from (equations m starts vars constants) 0 n
     ∷ running 0 (0 ∷ tallies n vars)
     ∷ tallies n vars
     ∷ padded n (reverse (heaviest (tallies n vars) n m))
@@ -111,20 +96,15 @@ module _ {n m : ℕ} {starts vars constants : List ℕ} (f : Fits n m starts var
       ap (λ (k : ℕ). padded (k * n) [] ++ (replicate n 0 ++ padded k [])) f.many
       ∙ rw (padded-nil (m * n), padded-nil m, replicate-append-replicate {A = ℕ} n m 0) (replicate-append-replicate {A = ℕ} (m * n) (n + m) 0)
 
-  module _ (g : Fits n m starts vars (replicate m 0)) where
-    lists_any : lists_from (equations m starts vars constants) 0 n ≡ lists_from (equations m starts vars (replicate m 0)) 0 n
-    lists_any =
-        sym (filled_lists f) ∙ ap (λ (os : List ℕ). joined (shelves vars os n (length vars))) (owners_any m 0 0 starts vars constants (replicate m 0)) ∙ filled_lists g
+  pub start_picture : segments n (equations m starts vars constants) (start n (equations m starts vars constants)) ≡ made_segments n m starts vars constants
+  unfolding segments start made_segments
+  start_picture =
+      cons refl (cons lengths_are (cons refl (cons (begins_are f) (cons (weights_are f)
+      (cons (ap (λ (l : List ℕ). padded n (reverse l)) variables_are) (cons (map_marks n) (cons refl (cons priority_are
+      (cons (ap₂ (λ (k : ℕ) (l : List ℕ). padded k l) f.many first_are) (cons none (cons none (cons (ap (λ (k : ℕ). replicate k 0) (ap (λ (k : ℕ). k + 1) f.many)) (cons dense_are refl)))))))))))))
+    where
+      cons : {a b : List ℕ} {x y : List (List ℕ)} → a ≡ b → x ≡ y → ◌≡◌ {A = List (List ℕ)} (a ∷ x) (b ∷ y)
+      cons p q = ap₂ (λ (x : List ℕ) (l : List (List ℕ)). x ∷ l) p q
 
-    pub start_picture : segments n (equations m starts vars constants) (start n (equations m starts vars constants)) ≡ made_segments n m starts vars
-    unfolding segments start made_segments
-    start_picture =
-        cons (ap (laid n) (rows_any m 0 starts vars constants (replicate m 0))) (cons lengths_are (cons lists_any (cons (begins_are f) (cons (weights_are f)
-        (cons (ap (λ (l : List ℕ). padded n (reverse l)) variables_are) (cons (map_marks n) (cons refl (cons priority_are
-        (cons (ap₂ (λ (k : ℕ) (l : List ℕ). padded k l) f.many first_are) (cons none (cons none (cons (ap (λ (k : ℕ). replicate k 0) (ap (λ (k : ℕ). k + 1) f.many)) (cons dense_are refl)))))))))))))
-      where
-        cons : {a b : List ℕ} {x y : List (List ℕ)} → a ≡ b → x ≡ y → ◌≡◌ {A = List (List ℕ)} (a ∷ x) (b ∷ y)
-        cons p q = ap₂ (λ (x : List ℕ) (l : List (List ℕ)). x ∷ l) p q
-
-        none : padded (length (equations m starts vars constants)) [] ≡ replicate m 0
-        none = ap (λ (k : ℕ). padded k []) f.many ∙ padded-nil m
+      none : padded (length (equations m starts vars constants)) [] ≡ replicate m 0
+      none = ap (λ (k : ℕ). padded k []) f.many ∙ padded-nil m

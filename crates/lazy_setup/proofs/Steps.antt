@@ -37,16 +37,16 @@ length_heaviest weights m e = ap (λ (l : List ℕ). length l) (sym (buckets_end
 
 -- ---- the segments after each step
 
-module _ (n m : ℕ) (starts vars : List ℕ) where
+module _ (n m : ℕ) (starts vars constants : List ℕ) where
   unfoldable pub loaded : List (List ℕ)
   loaded =
-      set (set (set (set (blanks n m (length vars)) 0 (rows_of n (equations m starts vars (replicate m 0)))) 1 (spans m starts)) 8 (spans m starts)) 6 (replicate n 1)
+      set (set (set (set (blanks n m (length vars)) 0 (rows_of n (equations m starts vars constants))) 1 (spans m starts)) 8 (spans m starts)) 6 (replicate n 1)
 
   unfoldable pub weighed : List (List ℕ)
   weighed = set (set loaded 4 (tallies n vars)) 3 (running 0 (0 ∷ tallies n vars))
 
   unfoldable pub listed : List (List ℕ)
-  listed = set weighed 2 (lists_from (equations m starts vars (replicate m 0)) 0 n)
+  listed = set weighed 2 (lists_from (equations m starts vars constants) 0 n)
 
   unfoldable pub sorted : List (List ℕ)
   sorted = set listed 5 (reverse (heaviest (tallies n vars) n m))
@@ -54,16 +54,16 @@ module _ (n m : ℕ) (starts vars : List ℕ) where
   unfoldable pub made : List (List ℕ)
   made = set sorted 9 (padded m (firsts (spans m starts) m))
 
-module _ {n m : ℕ} {starts vars : List ℕ} (g : Fits n m starts vars (replicate m 0)) where
+module _ {n m : ℕ} {starts vars constants : List ℕ} (g : Fits n m starts vars constants) where
   pub length_sorted : length (reverse (heaviest (tallies n vars) n m)) ≡ n
   length_sorted =
       let z = length_tallies n vars in
       ap (λ (k : ℕ). length (reverse (heaviest (tallies n vars) k m))) (sym z) ∙ length_heaviest (tallies n vars) m (tallies_low g) ∙ z
 
-  pub made_is : made n m starts vars ≡ made_segments n m starts vars
+  pub made_is : made n m starts vars constants ≡ made_segments n m starts vars constants
   unfolding made sorted listed weighed loaded blanks made_segments
   made_is = ap (λ (v : List ℕ).
-      rows_of n (equations m starts vars (replicate m 0)) ∷ spans m starts ∷ lists_from (equations m starts vars (replicate m 0)) 0 n ∷ running 0 (0 ∷ tallies n vars)
+      rows_of n (equations m starts vars constants) ∷ spans m starts ∷ lists_from (equations m starts vars constants) 0 n ∷ running 0 (0 ∷ tallies n vars)
       ∷ tallies n vars ∷ v ∷ replicate n 1 ∷ replicate n 0 ∷ spans m starts ∷ padded m (firsts (spans m starts) m)
       ∷ replicate m 0 ∷ replicate m 0 ∷ replicate (m + 1) 0 ∷ replicate (m * n + (n + m)) 0 ∷ []) (sym (padded_full n (reverse (heaviest (tallies n vars) n m)) length_sorted))
 
@@ -103,7 +103,7 @@ module _ {n m : ℕ} {starts vars : List ℕ} (g : Fits n m starts vars (replica
     -- ---- zeros, then the rows, lengths, priorities and marks
 
     pub load_ready : {l : List ℕ} → Shows n m (length vars) rest (blanks n m (length vars)) l
-        → (Fits n m starts vars (replicate m 0) × (m * n ≤ length l) × (at.lengths + m ≤ length l) × (at.idle + n ≤ length l) × (at.priority + m ≤ length l))
+        → (Fits n m starts vars constants × (m * n ≤ length l) × (at.lengths + m ≤ length l) × (at.idle + n ≤ length l) × (at.priority + m ≤ length l))
         × (stretch 0 (m * n) l ≡ replicate (m * n) 0)
     unfolding blanks offset
     load_ready s = (
@@ -118,11 +118,11 @@ module _ {n m : ℕ} {starts vars : List ℕ} (g : Fits n m starts vars (replica
     )
 
     pub load_shows : {l l' : List ℕ} → Shows n m (length vars) rest (blanks n m (length vars)) l
-        → l' ≡ put at.idle (replicate n 1) (put at.priority (spans m starts) (put at.lengths (spans m starts) (put 0 (rows_of n (equations m starts vars (replicate m 0))) l)))
-        → Shows n m (length vars) rest (loaded n m starts vars) l'
+        → l' ≡ put at.idle (replicate n 1) (put at.priority (spans m starts) (put at.lengths (spans m starts) (put 0 (rows_of n (equations m starts vars constants)) l)))
+        → Shows n m (length vars) rest (loaded n m starts vars constants) l'
     unfolding loaded offset
     load_shows {l} {l'} s q =
-        let a = shows_put s 0 0 (rows_of n (equations m starts vars (replicate m 0))) refl (length_rows g) in
+        let a = shows_put s 0 0 (rows_of n (equations m starts vars constants)) refl (length_rows g) in
         let b = shows_put a 1 at.lengths (spans m starts) (lengths_at_lem a) (length_spans m starts) in
         let c = shows_put b 8 at.priority (spans m starts) (priority_at b) (length_spans m starts) in
         let d = shows_put c 6 at.idle (replicate n 1) (idle_at c) (length-replicate {A = ℕ} n 1) in
@@ -130,7 +130,7 @@ module _ {n m : ℕ} {starts vars : List ℕ} (g : Fits n m starts vars (replica
 
     -- ---- the weights and where the lists begin
 
-    pub weigh_ready : {l : List ℕ} → Shows n m (length vars) rest (loaded n m starts vars) l
+    pub weigh_ready : {l : List ℕ} → Shows n m (length vars) rest (loaded n m starts vars constants) l
         → ((n ≤ max_variables) × (length vars ≤ max_listed) × Each (λ v. v < n) vars × (at.starts + (n + 1) ≤ at.weight) × (at.weight + n ≤ length l))
         × ((stretch at.starts (n + 1) l ≡ replicate (n + 1) 0) × (stretch at.weight n l ≡ replicate n 0))
     unfolding loaded blanks layout_of
@@ -145,8 +145,8 @@ module _ {n m : ℕ} {starts vars : List ℕ} (g : Fits n m starts vars (replica
       (shows_read s 3 at.starts (n + 1) (starts_at s) refl, shows_read s 4 at.weight n (weight_at s) refl),
     )
 
-    pub weigh_shows : {l l' : List ℕ} → Shows n m (length vars) rest (loaded n m starts vars) l
-        → l' ≡ put at.starts (running 0 (0 ∷ tallies n vars)) (put at.weight (tallies n vars) l) → Shows n m (length vars) rest (weighed n m starts vars) l'
+    pub weigh_shows : {l l' : List ℕ} → Shows n m (length vars) rest (loaded n m starts vars constants) l
+        → l' ≡ put at.starts (running 0 (0 ∷ tallies n vars)) (put at.weight (tallies n vars) l) → Shows n m (length vars) rest (weighed n m starts vars constants) l'
     unfolding weighed
     weigh_shows {l} {l'} s q =
         let a = shows_put s 4 at.weight (tallies n vars) (weight_at s) (length_tallies n vars) in
@@ -157,8 +157,8 @@ module _ {n m : ℕ} {starts vars : List ℕ} (g : Fits n m starts vars (replica
 
     -- ---- the lists
 
-    pub fill_ready : {l : List ℕ} → Shows n m (length vars) rest (weighed n m starts vars) l
-        → (Fits n m starts vars (replicate m 0) × (at.lists + length vars ≤ at.starts) × (at.starts + (n + 1) ≤ at.position) × (at.position + n ≤ length l))
+    pub fill_ready : {l : List ℕ} → Shows n m (length vars) rest (weighed n m starts vars constants) l
+        → (Fits n m starts vars constants × (at.lists + length vars ≤ at.starts) × (at.starts + (n + 1) ≤ at.position) × (at.position + n ≤ length l))
         × ((stretch at.starts (n + 1) l ≡ running 0 (0 ∷ tallies n vars)) × (stretch at.lists (length vars) l ≡ replicate (length vars) 0) × (stretch at.position n l ≡ replicate n 0))
     unfolding weighed loaded blanks layout_of
     fill_ready s = (
@@ -171,18 +171,18 @@ module _ {n m : ℕ} {starts vars : List ℕ} (g : Fits n m starts vars (replica
       (shows_read s 3 at.starts (n + 1) (starts_at s) refl, shows_read s 2 at.lists (length vars) (lists_at s) refl, shows_read s 7 at.position n (position_at s) refl),
     )
 
-    pub fill_shows : {l l' : List ℕ} → Shows n m (length vars) rest (weighed n m starts vars) l
-        → l' ≡ put at.lists (lists_from (equations m starts vars (replicate m 0)) 0 n) l → Shows n m (length vars) rest (listed n m starts vars) l'
+    pub fill_shows : {l l' : List ℕ} → Shows n m (length vars) rest (weighed n m starts vars constants) l
+        → l' ≡ put at.lists (lists_from (equations m starts vars constants) 0 n) l → Shows n m (length vars) rest (listed n m starts vars constants) l'
     unfolding listed
-    fill_shows {l} {l'} s q = let a = shows_put s 2 at.lists (lists_from (equations m starts vars (replicate m 0)) 0 n) (lists_at s) (lists_long g) in rw q a
+    fill_shows {l} {l'} s q = let a = shows_put s 2 at.lists (lists_from (equations m starts vars constants) 0 n) (lists_at s) (lists_long g) in rw q a
 
     -- ---- the variables by weight
 
-    weights_shown : {l : List ℕ} → Shows n m (length vars) rest (listed n m starts vars) l → stretch at.weight n l ≡ tallies n vars
+    weights_shown : {l : List ℕ} → Shows n m (length vars) rest (listed n m starts vars constants) l → stretch at.weight n l ≡ tallies n vars
     unfolding listed weighed loaded blanks
     weights_shown s = shows_read s 4 at.weight n (weight_at s) refl
 
-    pub sort_ready : {l : List ℕ} → Shows n m (length vars) rest (listed n m starts vars) l
+    pub sort_ready : {l : List ℕ} → Shows n m (length vars) rest (listed n m starts vars constants) l
         → ((n ≤ max_variables) × (m ≤ max_equations) × (at.weight + n ≤ at.variables) × (at.variables + n ≤ at.count) × (at.count + (m + 1) ≤ length l) × Each (λ w. w < m + 1) (stretch at.weight n l))
         × ((stretch at.count (m + 1) l ≡ replicate (m + 1) 0) × (stretch at.variables n l ≡ replicate n 0))
     unfolding listed weighed loaded blanks layout_of
@@ -198,8 +198,8 @@ module _ {n m : ℕ} {starts vars : List ℕ} (g : Fits n m starts vars (replica
       (shows_read s 12 at.count (m + 1) (count_at s) refl, shows_read s 5 at.variables n (variables_at s) refl),
     )
 
-    pub sort_shows : {l l' : List ℕ} → Shows n m (length vars) rest (listed n m starts vars) l
-        → l' ≡ put at.variables (reverse (heaviest (stretch at.weight n l) n m)) l → Shows n m (length vars) rest (sorted n m starts vars) l'
+    pub sort_shows : {l l' : List ℕ} → Shows n m (length vars) rest (listed n m starts vars constants) l
+        → l' ≡ put at.variables (reverse (heaviest (stretch at.weight n l) n m)) l → Shows n m (length vars) rest (sorted n m starts vars constants) l'
     unfolding sorted
     sort_shows {l} {l'} s q =
         let a = shows_put s 5 at.variables (reverse (heaviest (tallies n vars) n m)) (variables_at s) length_sorted in
@@ -207,36 +207,35 @@ module _ {n m : ℕ} {starts vars : List ℕ} (g : Fits n m starts vars (replica
 
     -- ---- the first list
 
-    priorities_shown : {l : List ℕ} → Shows n m (length vars) rest (sorted n m starts vars) l → stretch at.priority m l ≡ spans m starts
+    priorities_shown : {l : List ℕ} → Shows n m (length vars) rest (sorted n m starts vars constants) l → stretch at.priority m l ≡ spans m starts
     unfolding sorted listed weighed loaded blanks
     priorities_shown s = shows_read s 8 at.priority m (priority_at s) refl
 
-    pub first_ready : {l : List ℕ} → Shows n m (length vars) rest (sorted n m starts vars) l
+    pub first_ready : {l : List ℕ} → Shows n m (length vars) rest (sorted n m starts vars constants) l
         → (m ≤ max_equations) × (at.priority + m ≤ at.equations) × (at.equations + m ≤ length l)
     unfolding layout_of
     first_ready s =
         (g.few_equations, (let a = ap (λ (a : Layout). a.priority) same in let b = ap (λ (a : Layout). a.equations) same in omega arith), shows_inside s 9 at.equations (equations_at s))
 
-    pub first_shows : {l l' : List ℕ} → Shows n m (length vars) rest (sorted n m starts vars) l
-        → l' ≡ put at.equations (firsts (stretch at.priority m l) m) l → Shows n m (length vars) rest (made n m starts vars) l'
+    pub first_shows : {l l' : List ℕ} → Shows n m (length vars) rest (sorted n m starts vars constants) l
+        → l' ≡ put at.equations (firsts (stretch at.priority m l) m) l → Shows n m (length vars) rest (made n m starts vars constants) l'
     unfolding made sorted listed weighed loaded blanks
     first_shows {l} {l'} s q =
         let a = shows_fill s 9 at.equations (firsts (spans m starts) m) (equations_at s) refl (length_firsts (spans m starts) m) in
         rw (q, priorities_shown s) a
 
-    pub first_many : {l : List ℕ} {r : ℕ} → Shows n m (length vars) rest (sorted n m starts vars) l → r ≡ length (firsts (stretch at.priority m l) m) → r ≡ length (firsts (spans m starts) m)
-    first_many s q = q ∙ ap (λ (p : List ℕ). length (firsts p m)) (priorities_shown s)
+    -- ---- the start
 
--- ---- the start, with any constants
+    pub made_numbers : {area : List ℕ} → Shows n m (length vars) rest (made n m starts vars constants) area
+        → area ≡ numbers_of n (equations m starts vars constants) (start n (equations m starts vars constants)) ++ rest
+    unfolding numbers_of
+    made_numbers {area} s = s.shown ∙ ap (λ (segs : List (List ℕ)). joined segs ++ rest) (made_is ∙ sym (start_picture g))
 
-module _ {n m : ℕ} {starts vars constants : List ℕ} (g : Fits n m starts vars (replicate m 0)) (f : Fits n m starts vars constants) where
-  pub made_numbers : {rest area : List ℕ} → Shows n m (length vars) rest (made n m starts vars) area
-      → area ≡ numbers_of n (equations m starts vars constants) (start n (equations m starts vars constants)) ++ rest
-  unfolding numbers_of
-  made_numbers {rest} {area} s = s.shown ∙ ap (λ (segs : List (List ℕ)). joined segs ++ rest) (made_is g ∙ sym (start_picture f g))
-
-  pub first_number : length (firsts (spans m starts) m) ≡ length (start n (equations m starts vars constants)).equations
-  first_number = ap (λ (l : List ℕ). length l) (sym (first_are f)) ∙ length-reverse (start n (equations m starts vars constants)).equations
+    pub first_many : {l : List ℕ} {r : ℕ} → Shows n m (length vars) rest (sorted n m starts vars constants) l → r ≡ length (firsts (stretch at.priority m l) m)
+        → r ≡ length (start n (equations m starts vars constants)).equations
+    first_many s q =
+        q ∙ ap (λ (p : List ℕ). length (firsts p m)) (priorities_shown s)
+        ∙ ap (λ (l : List ℕ). length l) (sym (first_are g)) ∙ length-reverse (start n (equations m starts vars constants)).equations
 
 -- the room is zeroed
 pub zero_shows : (n m t r : ℕ) (l l' : List ℕ) → lazy_numbers n m t ≤ length l → r ≡ lazy_numbers n m t → l' ≡ put 0 (replicate (r - 0) 0) l

@@ -1,19 +1,19 @@
 // The work areas of lazy elimination, and how they are set up.
 #![tactic(auto)]
 
-
 mod lists;
 mod load;
 mod sort;
 mod tally;
 
-ghost use Rattle.std.specs.Prelude.{◌≡◌, List, ◌++◌, ℕ, ◌≤◌, length, drop, replicate};
+ghost use Rattle.std.specs.Prelude.{◌≡◌, ◌++◌, ◌≤◌, length, drop};
 ghost use Rattle.answers.specs.Sizes.{max_variables, max_equations, max_listed, lazy_numbers, lazy_words};
-ghost use Rattle.system.specs.System.{equations};
-ghost use Rattle.system.specs.Fits.{Fits};
+ghost use Rattle.system.specs.Lent.{equations_in, FitsIn};
 ghost use Rattle.lazy.specs.Lazy.{start};
 ghost use Rattle.lazy_setup.specs.Area.{numbers_of, words_of};
 ghost use Rattle.lazy_setup.specs.Layout.{layout_of, stand_of};
+
+use system::System;
 
 // Where each segment of the numbers begins; the rows begin at 0.
 #[derive(Clone, Copy)]
@@ -80,56 +80,42 @@ impl Layout {
     }
 }
 
-// The numbers of the start, from a system that keeps its rules; the constants are not read. How many equations stand on the first list.
-fn setup_numbers(n: usize, m: usize, starts: &[u32], vars: &[u32], numbers: &mut [u32]) -> usize
-    requires { Fits n m starts.now vars.now (replicate m 0) × (lazy_numbers n m (length vars.now) ≤ length numbers.old) }
-    ensures by_index { (constants : List ℕ) → Fits n m starts.now vars.now constants → result ≡ length (start n (equations m starts.now vars.now constants)).equations }
-    ensures by_index_2 { (constants : List ℕ) → Fits n m starts.now vars.now constants → numbers.new ≡ numbers_of n (equations m starts.now vars.now constants) (start n (equations m starts.now vars.now constants)) ++ drop (lazy_numbers n m (length vars.now)) numbers.old }
+// The numbers of the start, from a system that keeps its rules. How many equations stand on the first list.
+fn setup_numbers(system: &System, numbers: &mut [u32]) -> usize
+    requires { FitsIn system.now × (lazy_numbers system.now.n system.now.m (length system.now.vars.now) ≤ length numbers.old) }
+    ensures value { let es = equations_in system.now in result ≡ length (start system.now.n es).equations }
+    ensures numbers_after { let n = system.now.n in let es = equations_in system.now in
+        numbers.new ≡ numbers_of n es (start n es) ++ drop (lazy_numbers n system.now.m (length system.now.vars.now)) numbers.old }
 {
-    let t = vars.len();
-    areas::fill(numbers, 0, answers::lazy_numbers(n, m, t), 0);
-    let at = Layout::of(n, m, t);
-    let lengths = at.lengths;
-    let begins = at.starts;
-    let weight = at.weight;
-    let variables = at.variables;
-    let idle = at.idle;
-    let position = at.position;
-    let priority = at.priority;
-    load::load(n, m, starts, vars, numbers, lengths, idle, priority);
-    lists::weigh(n, vars, numbers, begins, weight);
-    let filled = at.lists;
-    lists::fill_lists(n, m, starts, vars, numbers, filled, begins, position);
-    let count = at.count;
-    sort::sort_variables(numbers, n, m, weight, variables, count);
-    let list = at.equations;
-    load::first_list(numbers, m, priority, list)
+    let t = system.vars.len();
+    areas::fill(numbers, 0, answers::lazy_numbers(system.n, system.m, t), 0);
+    let at = Layout::of(system.n, system.m, t);
+    load::load(system, numbers, at);
+    lists::weigh(system.n, system.vars, numbers, at);
+    lists::fill_lists(system, numbers, at);
+    sort::sort_variables(numbers, system.n, system.m, at);
+    load::first_list(numbers, system.m, at)
 }
 
 // The work areas of the start, from a system that keeps its rules: how far the lists reach.
-pub fn setup(
-    n: usize,
-    m: usize,
-    starts: &[u32],
-    vars: &[u32],
-    constants: &[u64],
-    numbers: &mut [u32],
-    words: &mut [u64],
-) -> Stand
-    requires { Fits n m starts.now vars.now constants.now × (lazy_numbers n m (length vars.now) ≤ length numbers.old) × (lazy_words m ≤ length words.old) }
-    ensures value { result ≡ stand_of (start n (equations m starts.now vars.now constants.now)) }
-    ensures numbers_after { numbers.new ≡ numbers_of n (equations m starts.now vars.now constants.now) (start n (equations m starts.now vars.now constants.now)) ++ drop (lazy_numbers n m (length vars.now)) numbers.old }
-    ensures words_after { words.new ≡ words_of (equations m starts.now vars.now constants.now) (start n (equations m starts.now vars.now constants.now)) ++ drop (lazy_words m) words.old }
+pub fn setup(system: &System, numbers: &mut [u32], words: &mut [u64]) -> Stand
+    requires { FitsIn system.now × (lazy_numbers system.now.n system.now.m (length system.now.vars.now) ≤ length numbers.old)
+        × (lazy_words system.now.m ≤ length words.old) }
+    ensures value { result ≡ stand_of (start system.now.n (equations_in system.now)) }
+    ensures numbers_after { let n = system.now.n in let es = equations_in system.now in
+        numbers.new ≡ numbers_of n es (start n es) ++ drop (lazy_numbers n system.now.m (length system.now.vars.now)) numbers.old }
+    ensures words_after { let es = equations_in system.now in
+        words.new ≡ words_of es (start system.now.n es) ++ drop (lazy_words system.now.m) words.old }
 {
-    areas::fill(words, 0, answers::lazy_words(m), 0);
-    areas::copy(constants, words, 0);
-    let first = setup_numbers(n, m, starts, vars, numbers);
+    areas::fill(words, 0, answers::lazy_words(system.m), 0);
+    areas::copy(system.constants, words, 0);
+    let first = setup_numbers(system, numbers);
     Stand {
-        variables: n,
+        variables: system.n,
         equations: first,
         solved: 0,
         dense: 0,
-        remaining: m,
+        remaining: system.m,
         done: 0,
     }
 }
