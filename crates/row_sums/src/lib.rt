@@ -1,7 +1,7 @@
 // The sum of two rows of one area.
 #![tactic(auto)]
 
-ghost use Rattle.std.specs.Prelude.{◌≡◌, ◌≤◌, max, length, take};
+ghost use Rattle.std.specs.Prelude.{◌≡◌, ◌≤◌, length, take};
 ghost use Rattle.areas.specs.Stretch.{stretch, put};
 ghost use Rattle.areas.specs.Rows.{padded};
 ghost use Rattle.equation.specs.Merging.{Ended};
@@ -70,12 +70,6 @@ fn add_ptr_in(
     e + (lj - j)
 }
 
-fn larger(a: usize, b: usize) -> usize
-    ensures { result ≡ max a b }
-{
-    if a < b { b } else { a }
-}
-
 // Adds the row at `q` into the row at `p`, and returns the length of the sum; the scratch row is zeros again.
 pub fn add_into(
     area: &mut [u32],
@@ -93,7 +87,7 @@ pub fn add_into(
     let len = add_ptr_in(area, n, p, li, q, lj, s);
     areas::copy_within(area, s, len, p);
     // No more is zeroed than the old row and the sum have written.
-    let top = larger(li, len);
+    let top = li.max(len);
     areas::fill(area, p + len, p + top, 0);
     areas::fill(area, s, s + len, 0);
     len

@@ -1,5 +1,5 @@
 -- A system's rows in lent memory: the picture of the rows in the numbers, their constants in the words, and the rows that an area holds.
-use Rattle.std.specs.Prelude.{◌≡◌, List, [], ◌∷◌, ◌++◌, map, ℕ, zero, suc, ◌+◌, ◌-◌, ◌*◌, ◌≤◌, length, get_or, set, drop, replicate}
+use Rattle.std.specs.Prelude.{◌≡◌, List, [], ◌∷◌, ◌++◌, map, ℕ, zero, suc, ◌+◌, ◌*◌, ◌≤◌, length, get_or, set, drop, replicate}
 use Rattle.areas.specs.Stretch.{stretch}
 use Rattle.areas.specs.Rows.{laid}
 use Rattle.answers.specs.Sizes.{row_numbers, row_words}

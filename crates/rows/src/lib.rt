@@ -26,12 +26,10 @@ pub fn empty_rows(numbers: &mut [u32], at: usize, lengths: usize, n: usize, m: u
     requires { PaddedRows at lengths n m numbers.old }
     ensures { numbers.new ≡ zeroed at (at + m * n) numbers.old }
 {
-    let mut i = 0;
-    while i < m {
+    for i in 0..m {
         let row = at + i * n;
         let len = numbers[lengths + i] as usize;
         areas::fill(numbers, row, row + len, 0);
-        i += 1;
     }
 }
 
