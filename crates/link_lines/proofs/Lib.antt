@@ -1,5 +1,4 @@
 pub mod Digits
 pub mod Said
 pub mod Lining
-pub mod Telling
 pub mod Examples

@@ -1,36 +1,41 @@
--- Texts written one behind the other.
-use mathlib.Core.Path.{◌≡◌, refl, sym, subst, ◌∙◌}
+-- Texts written one behind the other, and how long they are at most.
+use mathlib.Core.Path.{◌≡◌, refl, sym, ◌∙◌}
 use mathlib.Core.List.{List, [], ◌∷◌, ◌++◌, append-nil, append_assoc}
 use Prim.Native.Nat.{ℕ, ◌+◌, ◌*◌, ◌≤◌, ◌<◌}
 use native.Mathlib.Nat.{suc-mul}
 use native.Mathlib.Numerals.{add-one}
 use native.Mathlib.Omega.{arith}
-use lib.ListN.{length, take, get_or, set, length-append}
-use lib.Seq.{take-suc, take_all}
-use Rattle.areas.specs.Stretch.{put}
-use Rattle.areas.proofs.Stretch.{put_none, put_more, put_then, length-put}
+use lib.ListN.{length, take, get_or, length-append}
+use lib.Seq.{take-suc}
+use borrow.Author.Tests.{eq-eqb, ne_eqb}
+use Rattle.areas.proofs.Stretch.{put_none, put_then}
+use Rattle.answers.specs.Answers.{Answer}
+use Rattle.answers.specs.Numbers.{number_of}
+use Rattle.link_lines.specs.declared.text.Text.{Text}
 use Rattle.link_lines.specs.Decimal.{decimal}
-use Rattle.link_lines.specs.Lines.{space, newline, mark_text, ended, header_line, answer_line, value_lines, most_ended, most_header, most_answer}
+use Rattle.link_lines.specs.Lines.{newline, ended, header_line, answer_line, value_lines, most_ended, most_header, most_answer}
+use Rattle.link_lines.specs.Outcomes.{outcome, refusal_text, outcome_text}
+use Rattle.link_lines.specs.Text.{Adds}
 use Rattle.link_lines.proofs.Said.{few_digits}
 
--- the text stands from `at` up to p, and nothing else is changed
-pub record Told (before : List ℕ) (at : ℕ) (text : List ℕ) (p : ℕ) (out : List ℕ) : Type 0 where
-  pub ends : p ≡ at + length text
-  pub stands : out ≡ put at text before
-  pub room : at + length text ≤ length before
-  pub long : length out ≡ length before
+-- ---- one text behind the other
 
-pub told_first : (before : List ℕ) (at : ℕ) (text : List ℕ) (p : ℕ) (out : List ℕ) → p ≡ at + length text → out ≡ put at text before → at + length text ≤ length before
-    → Told before at text p out
-told_first before at text p out e q h = record { ends = e; stands = q; room = h; long = rw q (length-put at text before h) }
+pub adds_none : (t : Text) → t.end ≤ length t.out.now → Adds [] t t
+adds_none t h = record { same = refl; end = omega arith; out = sym (put_none t.end t.out.now); room = h; long = refl }
 
-pub told_more : {before : List ℕ} {at : ℕ} {text : List ℕ} {p : ℕ} {out : List ℕ} (more : List ℕ) (q : ℕ) (then : List ℕ) → Told before at text p out
-    → q ≡ p + length more → then ≡ put p more out → p + length more ≤ length out → Told before at (text ++ more) q then
-told_more {before} {at} {text} {p} {out} more q then t e w h =
-    let l = length-append text more in
-    let a = t.ends in
-    let b = t.long in
-    told_first before at (text ++ more) q then (omega arith) (w ∙ rw (a, t.stands) (put_then at text more before t.room)) (omega arith)
+pub adds_more : {a b : List ℕ} {s t u : Text} → Adds a s t → Adds b t u → Adds (a ++ b) s u
+adds_more {a} {b} {s} {t} {u} f g =
+    let l = length-append a b in
+    let e = f.end in
+    let r = f.room in
+    let n = f.long in
+    record {
+      same = g.same ∙ f.same;
+      end = omega (arith, g.end);
+      out = g.out ∙ rw (f.end, f.out) (put_then s.end a b s.out.now (omega arith));
+      room = g.room;
+      long = g.long ∙ f.long;
+    }
 
 -- ---- how long a text is at most
 
@@ -64,30 +69,6 @@ values_short (v ∷ vs) =
     let d = length-append (ended v 10) (value_lines vs) in
     omega arith
 
--- ---- a number and the byte that ends it
-
-pub ended_written : (x end at p : ℕ) (before out : List ℕ) → p ≡ at + length (decimal x) → out ≡ put at (decimal x) before → at + length (decimal x) < length before
-    → (p + 1 ≡ at + length (ended x end)) × (set out p end ≡ put at (ended x end) before)
-unfolding ended
-ended_written x end at p before out e w h =
-    let l = length-append (decimal x) (end ∷ []) in
-    (omega arith, rw (e, w) (put_more at end (decimal x) before h))
-
-pub ended_first : (x end at p : ℕ) (before out : List ℕ) → at + most_ended ≤ length before → p ≡ at + length (ended x end) → out ≡ put at (ended x end) before
-    → Told before at (ended x end) p out
-ended_first x end at p before out h e w = let s = ended_short x end in told_first before at (ended x end) p out e w (omega arith)
-
-pub ended_more : {before : List ℕ} {at : ℕ} {text : List ℕ} {p : ℕ} {out : List ℕ} (x end q : ℕ) (then : List ℕ) → Told before at text p out → p + most_ended ≤ length out
-    → q ≡ p + length (ended x end) → then ≡ put p (ended x end) out → Told before at (text ++ ended x end) q then
-ended_more {p = p} {out = out} x end q then t h e w = let s = ended_short x end in told_more (ended x end) q then t e w (omega arith)
-
-pub header_told : {before : List ℕ} {at p : ℕ} {out : List ℕ} (version kind n m : ℕ)
-    → Told before at ((((mark_text ++ ended version space) ++ ended kind space) ++ ended n space) ++ ended m newline) p out → Told before at (header_line version kind n m) p out
-header_told {before} {at} {p} {out} version kind n m t = subst (λ (text : List ℕ). Told before at text p out) parts t
-  where
-    parts : (((mark_text ++ ended version space) ++ ended kind space) ++ ended n space) ++ ended m newline ≡ header_line version kind n m
-    parts = unfold header_line in simp append_assoc
-
 -- ---- the values, one a line
 
 values_snoc : (vs : List ℕ) (v : ℕ) → value_lines (vs ++ (v ∷ [])) ≡ value_lines vs ++ ended v newline
@@ -95,38 +76,28 @@ unfolding value_lines
 values_snoc [] v = append-nil (ended v newline)
 values_snoc (u ∷ vs) v = rw (values_snoc vs v, append_assoc (ended u newline) (value_lines vs) (ended v newline))
 
--- i of the values are told, up to p
-pub record Listing (values before : List ℕ) (at p i : ℕ) (out : List ℕ) : Type 0 where
-  pub done : i ≤ length values
-  pub space : at + length values * most_ended ≤ length before
-  pub low : p ≤ at + i * most_ended
-  pub long : length out ≡ length before
-  pub so_far : Told before at (value_lines (take i values)) p out
+-- i of the values are told
+pub record Listing (values : List ℕ) (begin now : Text) (i : ℕ) : Type 0 where
+  pub low : now.end ≤ begin.end + i * most_ended
+  pub so_far : Adds (value_lines (take i values)) begin now
 
-pub listing_begin : (values before : List ℕ) (at : ℕ) → at + length values * most_ended ≤ length before → Listing values before at at 0 before
+pub listing_begin : (values : List ℕ) (t : Text) → t.end ≤ length t.out.now → Listing values t t 0
 unfolding value_lines
-listing_begin values before at h =
-    record { done = omega arith; space = h; low = omega arith; long = refl; so_far = told_first before at [] at before (omega arith) (sym (put_none at before)) (omega arith) }
+listing_begin values t h = record { low = omega arith; so_far = adds_none t h }
 
-pub listing_room : {values before : List ℕ} {at p i : ℕ} {out : List ℕ} → Listing values before at p i out → i < length values → p + most_ended ≤ length out
-listing_room {values} {before} {at} {p} {i} {out} l h = omega (arith, l.low, l.space, l.long)
+pub listing_turn : {values : List ℕ} {begin now next : Text} {i : ℕ} → Listing values begin now i → i < length values → Adds (ended (get_or values i 0) newline) now next
+    → next.end ≤ now.end + most_ended → Listing values begin next (i + 1)
+listing_turn {values} {begin} {now} {next} {i} l h a short = record {
+  low = omega (arith, l.low);
+  so_far = rw (add-one, take-suc values i 0 h, values_snoc (take i values) (get_or values i 0)) (adds_more l.so_far a);
+}
 
-pub listing_turn : {values before : List ℕ} {at p i : ℕ} {out : List ℕ} (q : ℕ) (then : List ℕ) → Listing values before at p i out → i < length values
-    → q ≡ p + length (ended (get_or values i 0) newline) → then ≡ put p (ended (get_or values i 0) newline) out → Listing values before at q (i + 1) then
-listing_turn {values} {before} {at} {p} {i} {out} q then l h e w =
-    let s = ended_short (get_or values i 0) newline in
-    let r = listing_room l h in
-    let t = told_more (ended (get_or values i 0) newline) q then l.so_far e w (omega arith) in
-    record {
-      done = omega arith;
-      space = l.space;
-      low = omega (arith, l.low);
-      long = t.long;
-      so_far = rw (add-one, take-suc values i 0 h, values_snoc (take i values) (get_or values i 0)) t;
-    }
+-- ---- the values behind an answer, or none
 
-pub listing_end : {values before : List ℕ} {at p i : ℕ} {out : List ℕ} → Listing values before at p i out → length values ≤ i
-    → (p ≡ at + length (value_lines values)) × (out ≡ put at (value_lines values) before)
-listing_end {values} {before} {at} {p} {i} l h =
-    let e : take i values ≡ values = take_all i values h in
-    (rw e at l.so_far.ends, rw e at l.so_far.stands)
+pub solved_text : (answer : Answer) (values : List ℕ) → number_of answer ≡ 0 → refusal_text answer ++ value_lines values ≡ outcome_text (outcome answer values)
+unfolding outcome_text
+solved_text answer values e = rw (eq-eqb (number_of answer) 0 e)
+
+pub refused_text : (answer : Answer) (values : List ℕ) → (number_of answer ≡ 0 → ⊥) → refusal_text answer ≡ outcome_text (outcome answer values)
+unfolding outcome_text
+refused_text answer values f = rw (ne_eqb (number_of answer) 0 f) (sym (append-nil (refusal_text answer)))

@@ -1,5 +1,5 @@
 -- Numbers as decimal digits, the highest first, and lines of them.
-use Rattle.std.specs.Prelude.{List, [], ◌∷◌, true, false, ℕ, zero, suc, ◌+◌, ◌-◌, ◌≤◌, ◌*◌, ◌/◌, ◌%◌, ltb, length, drop, ◌≡◌}
+use Rattle.std.specs.Prelude.{List, [], ◌∷◌, true, false, ℕ, zero, suc, ◌+◌, ◌-◌, ◌*◌, ◌/◌, ◌%◌, ltb}
 
 -- no 64-bit number has more decimal digits
 abbrev pub most_digits : ℕ
@@ -17,9 +17,3 @@ decimal x = digits_before most_digits x []
 unfoldable pub said : ℕ → List ℕ → ℕ
 said so_far [] = so_far
 said so_far (d ∷ digits) = said (so_far * 10 + (d - 48)) digits
-
--- the digits of x stand at the end of twenty cells, from k on
-pub record Laid (x k : ℕ) (cells : List ℕ) : Type 0 where
-  pub long : length cells ≡ most_digits
-  pub inside : k ≤ most_digits
-  pub digits : drop k cells ≡ decimal x
