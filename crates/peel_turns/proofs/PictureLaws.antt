@@ -16,9 +16,16 @@ use Rattle.peel_rules.specs.Edges.{first, second}
 use Rattle.peel_rules.specs.Machine.{side_from, side_no, first_side, second_side, mpush, graph_after, stack_after}
 use Rattle.peel_rules.proofs.PeelEmpty.{first<, second<}
 use Rattle.peel_steps.specs.Pictures.{graph_in, rising, falling, stack_in}
-use Rattle.peel_turns.specs.Steps.{pushed, raised, Visits, Visited, TakesOff, TakenOff}
+use Rattle.peel_turns.specs.Steps.{Visits, Visited, TakesOff, TakenOff}
 
 -- ---- stacks
+
+-- a vertex put at a stack's head, if told to
+abbrev pub pushed : Bool → List ℕ → ℕ → ℕ → List ℕ
+pushed b area at v = cond b (set area at v) area
+
+abbrev pub raised : Bool → ℕ → ℕ
+raised b top = cond b (top + 1) top
 
 pub rising_length : (b k : ℕ) (l : List ℕ) → length (rising b k l) ≡ k
 unfolding rising
@@ -93,17 +100,17 @@ pub in_graph : (n v : ℕ) (l : List ℕ) → v < n → get_or (take n l) v 0 �
 in_graph n v l h = get_or-take n l v 0 h
 
 -- ---- a vertex is visited
-pub visited : {n top w : ℕ} {numbers bytes : List ℕ} → Visits n top numbers bytes w → (two : Bool) (head i t : ℕ) (numbers₁ numbers₂ bytes₂ : List ℕ)
-    → two ≡ eqb (get_or bytes w 0 / 4) 2 → head ≡ raised two top → numbers₁ ≡ pushed two numbers (n + top) w
+pub visited : {n top w : ℕ} {numbers bytes : List ℕ} → Visits n top numbers bytes w → (two : Bool) {d head i t : ℕ} {numbers₁ numbers₂ bytes₂ : List ℕ}
+    → d ≡ get_or bytes w 0 / 4 → two ≡ eqb d 2 → head ≡ raised two top → numbers₁ ≡ pushed two numbers (n + top) w
     → graph_of numbers₂ bytes₂ ≡ remove (graph_of numbers₁ bytes) w i t
     → Visited n top numbers bytes numbers₂ bytes₂ w i t head
 unfolding mpush
-visited {n} {top} {w} {numbers} {bytes} k two head i t numbers₁ numbers₂ bytes₂ ht hh hn hg = record {
+visited {n} {top} {w} {numbers} {bytes} k two {d} {head} {i} {t} {numbers₁} {numbers₂} {bytes₂} hd ht hh hn hg = record {
   long = ap length en ∙ length-set numbers₁ w _ ∙ ap length hn ∙ pushed_length two numbers (n + top) w;
   long_b = ap length eb ∙ length-set bytes w _;
   graph = λ j. record { edges = graph_n j; degrees = graph_b j };
   stack = rw (hh, en) (rising_below n (raised two top) w _ numbers₁ k.below ∙ ap (rising n (raised two top)) hn ∙ rising_pushed two n top w numbers (omega (arith, k.holds.room, k.top<))
-      ∙ ap (λ (b : Bool). cond b (w ∷ rising n top numbers) (rising n top numbers)) (ht ∙ ap (λ (z : ℕ). eqb (z / 4) 2) (sym (in_graph n w bytes k.below))));
+      ∙ ap (λ (b : Bool). cond b (w ∷ rising n top numbers) (rising n top numbers)) (ht ∙ ap (λ (z : ℕ). eqb z 2) (hd ∙ ap (λ (z : ℕ). z / 4) (sym (in_graph n w bytes k.below)))));
   rest = rw (hh, en) (drop-set-lt (n + raised two top) numbers₁ w _ (omega (arith, k.below)) ∙ ap (drop (n + raised two top)) hn ∙ drop_pushed two n top w numbers);
   rest_b = ap (drop n) eb ∙ drop-set-lt n bytes w _ k.below;
   rises = rw hh (raised_le two top);

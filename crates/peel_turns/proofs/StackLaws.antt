@@ -32,10 +32,6 @@ push_from xs ys h n v l e =
     ap (λ z. put_mid n (length xs - n) xs z) (e ∙ ap (λ (p : PushCall). p.stack) (fast_pushes (mid_of n (length xs - n) xs) h v (inside xs n h.lower l)))
     ∙ set_mid_at n (length xs - n) h.lower xs v (inside xs n h.lower l)
 
-pub head_from : (xs : List ℕ) (h : Head) (n v : ℕ) → n + h.lower < length xs
-    → (fast_push (mid_of n (length xs - n) xs) h v).result.head.lower ≡ h.lower + 1
-head_from xs h n v l = ap (λ (p : PushCall). p.result.head.lower) (fast_pushes (mid_of n (length xs - n) xs) h v (inside xs n h.lower l))
-
 -- ---- the upper one of two in the n cells from n on, with k pushed before
 
 pub push_upper_from : (xs ys : List ℕ) (h : Head) (n k v : ℕ) → k < n → n + n ≤ length xs → h.lower ≡ 0 → h.upper ≡ n - k
