@@ -17,8 +17,8 @@ use Rattle.rows.proofs.Padding.{padded_agree}
 use Rattle.sparse_rules.specs.Eliminate.{outer_row}
 use Rattle.sparse_rules.specs.Cancelled.{outer_row_cancels}
 use Rattle.sparse_rows.specs.Reduce.{ReducedBy, refused, reduced}
-use Rattle.sparse_rows.specs.declared.echelon.Reduction.{Reduction}
-use Rattle.sparse_rows.specs.declared.echelon.Reduction.TheVariants as reduction
+use Rattle.sparse_rows.specs.Reduction.{Reduction}
+use Rattle.sparse_rows.specs.Reduction as reduction
 use Rattle.lazy.specs.Lazy.{State, dense_row}
 use Rattle.lazy_setup.specs.declared.Layout.{Layout}
 use Rattle.lazy_setup.specs.declared.Stand.{Stand}

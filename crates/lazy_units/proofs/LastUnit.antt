@@ -12,8 +12,8 @@ use Rattle.rows.specs.Picture.{Held, rows_of}
 use Rattle.rows.proofs.Holding.{held, carried}
 use Rattle.sparse_rules.specs.Eliminate.{contradicted, back_sub, finish}
 use Rattle.sparse_rows.specs.Reduce.{FinishedBy, left, filled}
-use Rattle.sparse_rows.specs.declared.echelon.Reduction.{Reduction}
-use Rattle.sparse_rows.specs.declared.echelon.Reduction.TheVariants as reduction
+use Rattle.sparse_rows.specs.Reduction.{Reduction}
+use Rattle.sparse_rows.specs.Reduction as reduction
 use Rattle.lazy.specs.Lazy.{State, fill, last_unit}
 use Rattle.lazy_setup.specs.declared.Layout.{Layout}
 use Rattle.lazy_setup.specs.declared.Stand.{Stand}

@@ -11,7 +11,7 @@ use Rattle.rows.specs.Picture.{Held, rows_of}
 use Rattle.sparse_rules.specs.Eliminate.{outer_row}
 use Rattle.sparse_rules.specs.Cancelled.{outer_row_cancels}
 use Rattle.sparse_rows.specs.Reduce.{Reduces}
-use Rattle.sparse_rows.specs.declared.echelon.Reduction.{Reduction}
+use Rattle.sparse_rows.specs.Reduction.{Reduction}
 use Rattle.lazy_units.specs.Clearing.{ClearFits, Cleared}
 
 pub tail_is : (a : ℕ) (l : List ℕ) → take (length l - a) (drop a l) ≡ drop a l

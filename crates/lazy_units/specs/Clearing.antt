@@ -4,7 +4,7 @@ use Rattle.answers.specs.Sizes.{max_variables}
 use Rattle.rows.specs.Picture.{Held}
 use Rattle.sparse_rules.specs.Eliminate.{outer_row}
 use Rattle.sparse_rows.specs.Reduce.{Reduces}
-use Rattle.sparse_rows.specs.declared.echelon.Reduction.{Reduction}
+use Rattle.sparse_rows.specs.Reduction.{Reduction}
 
 pub record ClearFits (dense n m d i : ℕ) (numbers words : List ℕ) : Type 0 where
   pub place : dense ≤ length numbers

@@ -18,8 +18,8 @@ use Rattle.rows.proofs.Holding.{rest_kept, rows_are}
 use Rattle.sparse_rules.specs.Eliminate.{gaussian_elimination}
 use Rattle.sparse_rules.specs.Cancelled.{sparse_cancels}
 use Rattle.sparse_rows.specs.Reduce.{FinishedBy, left, filled}
-use Rattle.sparse_rows.specs.declared.echelon.Reduction.{Reduction}
-use Rattle.sparse_rows.specs.declared.echelon.Reduction.TheVariants.{Unsolvable, Reduced}
+use Rattle.sparse_rows.specs.Reduction.{Reduction}
+use Rattle.sparse_rows.specs.Reduction.{Unsolvable, Reduced}
 
 module _ (n m : ℕ) (es : List Equation) (numbers words numbers₁ words₁ numbers₂ words₂ numbers₃ words₃ : List ℕ) (d : Became n m numbers words es numbers₁ words₁)
     (k : Kept n m (drop (sparse_numbers n m) numbers₁) (drop (sparse_words m) words₁) numbers₂ words₂)

@@ -22,8 +22,8 @@ use Rattle.sparse_rows.specs.Counts.{loop_cancels, ahead}
 use Rattle.sparse_rows.specs.Reduce.{clashed, vanished, paired, again, refused, reduced, MeetsRows, Reduces}
 use Rattle.sparse_rows.specs.declared.echelon.Met.{Met}
 use Rattle.sparse_rows.specs.declared.echelon.Met.TheVariants.{Clash, Identity, Both, Summed}
-use Rattle.sparse_rows.specs.declared.echelon.Reduction.{Reduction}
-use Rattle.sparse_rows.specs.declared.echelon.Reduction.TheVariants.{Unsolvable, Reduced}
+use Rattle.sparse_rows.specs.Reduction.{Reduction}
+use Rattle.sparse_rows.specs.Reduction.{Unsolvable, Reduced}
 use Rattle.sparse_rows.proofs.Counts.{cancels_blank, cancels_apart, cancels_sum, count_clash, count_identity, count_both, count_again, outer_count, outer_count_none}
 use Rattle.sparse_rows.proofs.Forward.{empty, full, first}
 

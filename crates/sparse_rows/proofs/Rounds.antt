@@ -11,12 +11,12 @@ use Rattle.gf2.specs.Equation.{Equation, eqn}
 use Rattle.gf2.specs.Result.{Result, unsolvable, ok}
 use Rattle.rows.specs.Picture.{Drawn, Kept, Held, rows_of, row_at}
 use Rattle.rows.proofs.Holding.{row_constant, row_length, rest_kept, rows_are, held, carried}
-use Rattle.sparse_rules.specs.Eliminate.{both, meeting, outer_row, outer_rows, echelon_form}
+use Rattle.sparse_rules.specs.Eliminate.{meeting, outer_row, outer_rows, echelon_form}
 use Rattle.sparse_rows.specs.Reduce.{MetBy, clashed, vanished, paired, again, ReducedBy, refused, reduced, MeetsRows, Reduces, Alike, Passes}
 use Rattle.sparse_rows.specs.declared.echelon.Met.{Met}
 use Rattle.sparse_rows.specs.declared.echelon.Met.TheVariants.{Clash, Identity, Both, Summed}
-use Rattle.sparse_rows.specs.declared.echelon.Reduction.{Reduction}
-use Rattle.sparse_rows.specs.declared.echelon.Reduction.TheVariants.{Unsolvable, Reduced}
+use Rattle.sparse_rows.specs.Reduction.{Reduction}
+use Rattle.sparse_rows.specs.Reduction.{Unsolvable, Reduced}
 use Rattle.sparse_rows.specs.Loop.{meet_loop, StandsAt}
 use Rattle.sparse_rows.proofs.Loops.{loop_clash, loop_identity, loop_both, loop_again, loop_over, followed, outer_blank, outer_wrong, outer_loop}
 use Rattle.sparse_rows.proofs.Forward.{empty, full, first}

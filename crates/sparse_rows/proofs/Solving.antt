@@ -2,7 +2,7 @@
 use mathlib.Core.Path.{◌≡◌, refl, sym, ap, ◌∙◌, subst}
 use mathlib.Core.Bool.{Bool, true, false}
 use mathlib.Core.List.{List, ◌++◌}
-use Prim.Native.Nat.{ℕ, ◌+◌, ◌-◌, ◌≤◌}
+use Prim.Native.Nat.{ℕ, ◌-◌, ◌≤◌}
 use native.Mathlib.Omega.{arith}
 use native.Mathlib.Nat.{sub-zero}
 use lib.ListN.{length, take, drop, replicate, length-append, length-drop, length-replicate}
@@ -15,8 +15,8 @@ use Rattle.rows.specs.Picture.{Kept, Held, rows_of}
 use Rattle.rows.proofs.Holding.{rest_kept, rows_are, held}
 use Rattle.sparse_rules.specs.Eliminate.{contradicted, back_sub, finish, echelon_form, gaussian_elimination}
 use Rattle.sparse_rows.specs.Reduce.{ReducedBy, refused, reduced, FinishedBy, left, filled}
-use Rattle.sparse_rows.specs.declared.echelon.Reduction.{Reduction}
-use Rattle.sparse_rows.specs.declared.echelon.Reduction.TheVariants.{Unsolvable, Reduced}
+use Rattle.sparse_rows.specs.Reduction.{Reduction}
+use Rattle.sparse_rows.specs.Reduction.{Unsolvable, Reduced}
 
 -- ---- the end of the rows
 

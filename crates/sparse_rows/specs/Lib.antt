@@ -1,3 +1,4 @@
+pub mod Reduction
 pub mod Loop
 pub mod Reduce
 pub mod Counts

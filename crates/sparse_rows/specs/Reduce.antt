@@ -8,8 +8,8 @@ use Rattle.sparse_rules.specs.Eliminate.{Meeting, clash, identity, both, meeting
 use Rattle.sparse_rows.specs.Loop.{meet_loop, StandsAt}
 use Rattle.sparse_rows.specs.declared.echelon.Met.{Met}
 use Rattle.sparse_rows.specs.declared.echelon.Met.TheVariants.{Clash, Identity, Both, Summed}
-use Rattle.sparse_rows.specs.declared.echelon.Reduction.{Reduction}
-use Rattle.sparse_rows.specs.declared.echelon.Reduction.TheVariants.{Unsolvable, Reduced}
+use Rattle.sparse_rows.specs.Reduction.{Reduction}
+use Rattle.sparse_rows.specs.Reduction.{Unsolvable, Reduced}
 
 -- rows i and j met, and o came of it; where both are left, row i has variables; a row i that begins above row j is to meet it again, and gives o then
 pub data MetBy (n m i j : ℕ) (rows : List Equation) (rest rest' : List ℕ) (o : Meeting) (numbers words : List ℕ) : Met → Type 0 where

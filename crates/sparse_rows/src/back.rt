@@ -3,8 +3,9 @@ ghost use Rattle.std.specs.Prelude.{◌≡◌, [], ◌∷◌, ◌+◌, ◌≤◌
 ghost use Rattle.rows.specs.Picture.{Held, rows_of, row_at};
 ghost use Rattle.sparse_rules.specs.Eliminate.{contradicted, pin, back_sub, finish};
 ghost use Rattle.sparse_rows.specs.Reduce.{FinishedBy};
+ghost use Rattle.sparse_rows.specs.Reduction.{reduction_of};
 
-use crate::echelon::Reduction;
+use crate::echelon::Unsolvable;
 
 // Whether row `i` is an equation that no values meet.
 fn is_unsolvable(numbers: &[u32], words: &[u64], n: usize, m: usize, i: usize) -> bool
@@ -74,14 +75,14 @@ pub fn finish_rows(
     m: usize,
     d: usize,
     solution: &mut [u64],
-) -> Reduction
+) -> Result<(), Unsolvable>
     requires { Held n m numbers.now words.now × (d ≤ m) × (length solution.old ≡ n) }
-    ensures { FinishedBy (finish n (take d (rows_of n m numbers.now words.now))) solution.old solution.new result }
+    ensures { FinishedBy (finish n (take d (rows_of n m numbers.now words.now))) solution.old solution.new (reduction_of result) }
 {
     if any_unsolvable(numbers, words, n, m, d) {
-        return Reduction::Unsolvable;
+        return Err(Unsolvable);
     }
     areas::fill(solution, 0, n, 0);
     back_substitution(numbers, words, n, m, d, solution);
-    Reduction::Reduced
+    Ok(())
 }

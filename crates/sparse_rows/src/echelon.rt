@@ -6,9 +6,10 @@ ghost use Rattle.sparse_rules.specs.Eliminate.{meeting, outer_row, echelon_form}
 ghost use Rattle.sparse_rules.specs.Cancelled.{meeting_cancels, outer_row_cancels, sparse_cancels};
 ghost use Rattle.sparse_rows.specs.Counts.{ahead};
 ghost use Rattle.sparse_rows.specs.Reduce.{Alike, MeetsRows, Passes, Reduces};
+ghost use Rattle.sparse_rows.specs.Reduction.{reduction_of};
 
 // What came of a meeting of row i and a later row j.
-#[derive(Clone, Copy)]
+#[derive(Clone, Copy, PartialEq, Debug)]
 pub enum Met {
     // An equation without variables whose constant is not 0.
     Clash,
@@ -20,23 +21,20 @@ pub enum Met {
 }
 
 // .. and what fell away until then: two for each variable that cancelled.
-#[derive(Clone, Copy)]
+#[derive(Clone, Copy, PartialEq, Debug)]
 pub struct Encounter {
     pub met: Met,
     pub fallen: u64,
 }
 
-// What came of an elimination of rows.
-#[derive(Clone, Copy)]
-pub enum Reduction {
-    Unsolvable,
-    Reduced,
-}
+// No values meet some equation of the rows.
+#[derive(Clone, Copy, PartialEq, Debug)]
+pub struct Unsolvable;
 
-// .. and how many variables cancelled in its sums, one that was refused included.
-#[derive(Clone, Copy)]
+// What came of an elimination of rows, and how many variables cancelled in its sums, one that was refused included.
+#[derive(Clone, Copy, PartialEq, Debug)]
 pub struct Counted {
-    pub end: Reduction,
+    pub end: Result<(), Unsolvable>,
     pub cancelled: u64,
 }
 
@@ -131,18 +129,18 @@ pub fn outer_row(
     i: usize,
 ) -> Counted
     requires { Held n m numbers.old words.old × (i < d) × (d ≤ m) × (n ≤ max_variables) }
-    ensures reduces { Reduces (outer_row i) n m d numbers.old words.old numbers.new words.new result.end }
+    ensures reduces { Reduces (outer_row i) n m d numbers.old words.old numbers.new words.new (reduction_of result.end) }
     ensures cancelled_value { result.cancelled ≡ outer_row_cancels i (take d (rows_of n m numbers.old words.old)) }
 {
     if numbers[m * n + n + i] == 0 {
         if words[i] != 0 {
             return Counted {
-                end: Reduction::Unsolvable,
+                end: Err(Unsolvable),
                 cancelled: 0,
             };
         }
         return Counted {
-            end: Reduction::Reduced,
+            end: Ok(()),
             cancelled: 0,
         };
     }
@@ -151,17 +149,16 @@ pub fn outer_row(
     while j < d {
         let e = meet_rows(numbers, words, n, m, i, j, fallen);
         fallen = e.fallen;
-        let met = e.met;
-        match met {
+        match e.met {
             Met::Clash => {
                 return Counted {
-                    end: Reduction::Unsolvable,
+                    end: Err(Unsolvable),
                     cancelled: fallen / 2,
                 };
             }
             Met::Identity => {
                 return Counted {
-                    end: Reduction::Reduced,
+                    end: Ok(()),
                     cancelled: fallen / 2,
                 };
             }
@@ -170,7 +167,7 @@ pub fn outer_row(
         }
     }
     Counted {
-        end: Reduction::Reduced,
+        end: Ok(()),
         cancelled: fallen / 2,
     }
 }
@@ -178,7 +175,7 @@ pub fn outer_row(
 // The first `d` rows to echelon form: every row but the last is an outer row.
 pub fn echelon_form(numbers: &mut [u32], words: &mut [u64], n: usize, m: usize, d: usize) -> Counted
     requires { Held n m numbers.old words.old × (d ≤ m) × (n ≤ max_variables) × (m ≤ max_equations) }
-    ensures reduces { Reduces echelon_form n m d numbers.old words.old numbers.new words.new result.end }
+    ensures reduces { Reduces echelon_form n m d numbers.old words.old numbers.new words.new (reduction_of result.end) }
     ensures cancelled_value { result.cancelled ≡ sparse_cancels (take d (rows_of n m numbers.old words.old)) }
 {
     let mut cancelled = 0u64;
@@ -186,19 +183,18 @@ pub fn echelon_form(numbers: &mut [u32], words: &mut [u64], n: usize, m: usize, 
     while i + 1 < d {
         let row = outer_row(numbers, words, n, m, d, i);
         cancelled += row.cancelled;
-        let end = row.end;
-        match end {
-            Reduction::Unsolvable => {
+        match row.end {
+            Err(Unsolvable) => {
                 return Counted {
-                    end: Reduction::Unsolvable,
+                    end: Err(Unsolvable),
                     cancelled,
                 };
             }
-            Reduction::Reduced => i += 1,
+            Ok(()) => i += 1,
         }
     }
     Counted {
-        end: Reduction::Reduced,
+        end: Ok(()),
         cancelled,
     }
 }

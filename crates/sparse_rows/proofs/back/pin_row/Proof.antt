@@ -1,5 +1,5 @@
 -- The first variable of a row that is not empty gets the value that meets the row.
-use Prim.Native.Nat.{◌+◌, ◌*◌, ◌-◌}
+use Prim.Native.Nat.{◌+◌, ◌*◌}
 use Rattle.sparse_rows.proofs.Backward.{row_fits, pin_skip, pin_listed, pin_place, pin_done}
 use Rattle.sparse_rows.proofs.Forward.{first_in}
 use borrow.Author.Rules.{rules}

@@ -1,0 +1,11 @@
+-- What comes of an elimination of rows; in the code a result.
+use Rattle.std.specs.Prelude.{Result, Ok, Err}
+use Rattle.sparse_rows.specs.declared.echelon.Unsolvable.{Unsolvable as NoValues}
+
+pub data Reduction : Type 0 where
+  Unsolvable : Reduction
+  Reduced : Reduction
+
+abbrev pub reduction_of : Result (Unit {0}) NoValues → Reduction
+reduction_of (Ok x) = Reduced
+reduction_of (Err e) = Unsolvable
