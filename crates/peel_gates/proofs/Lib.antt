@@ -1,1 +1,2 @@
+pub mod GateLaws
 pub mod RoomLaws

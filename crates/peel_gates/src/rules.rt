@@ -1,6 +1,6 @@
 // What is refused before the run.
-ghost use Rattle.std.specs.Prelude.{◌≡◌};
-ghost use Rattle.peel_rules.specs.Edges.{is_valid};
+ghost use Rattle.std.specs.Prelude.{◌≡◌, length, not, position};
+ghost use Rattle.peel_rules.specs.Edges.{is_valid, bad_edge};
 ghost use Rattle.peel_gates.specs.Gates.{gate_of, gate_by};
 
 use crate::rooms::Memory;
@@ -19,27 +19,34 @@ pub fn keeps_rule(n: usize, e: Edge) -> bool
     below && apart
 }
 
-// Tries the refusals 1, 3, 4 and 5: `cells`, `numbers` and `bytes` are the lengths that are lent, `bad` is the lowest edge that breaks its rule, m where there is none.
+// The lowest edge that breaks its rule.
+pub fn bad_edge(n: usize, edges: &[Edge]) -> Option<usize>
+    ensures { result ≡ position (λ e. not (is_valid n e)) edges.now }
+{
+    edges.iter().position(|e| !keeps_rule(n, *e))
+}
+
+// Tries the refusals 1, 3, 4 and 5.
 pub fn judge<M: Memory>(
     n: usize,
-    m: usize,
-    bad: usize,
-    cells: usize,
-    numbers: usize,
-    bytes: usize,
+    edges: &[Edge],
+    solution: &[u64],
+    numbers: &[u32],
+    bytes: &[u8],
 ) -> Result<(), Refusal>
-    ensures { gate_by result ≡ gate_of M.high n m bad cells numbers bytes }
+    ensures { gate_by result ≡ gate_of M.high n (length edges.now) (bad_edge n edges.now) (length solution.now) (length numbers.now) (length bytes.now) }
 {
+    let m = edges.len();
     if MAX_VARIABLES < n || MAX_EQUATIONS < m {
         return Err(Refusal::TooLarge);
     }
-    if bad < m {
+    if let Some(bad) = bad_edge(n, edges) {
         return Err(Refusal::BadEntry(bad));
     }
-    if cells != n {
+    if solution.len() != n {
         return Err(Refusal::WrongSolution);
     }
-    if numbers < M::numbers_room(n, m) || bytes < M::bytes_room(n, m) {
+    if numbers.len() < M::numbers_room(n, m) || bytes.len() < M::bytes_room(n, m) {
         return Err(Refusal::ShortArea);
     }
     Ok(())
