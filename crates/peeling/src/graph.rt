@@ -29,7 +29,8 @@ pub struct EdgeAndSide {
     pub side: u8,
 }
 
-// Each call that takes a vertex is refused by 10 outside its domain, and then what it was lent stays.
+// Each call that takes a vertex is refused by 10 outside its domain, and then what it was lent stays. The two slices come apart:
+// a call that reads lends them shared, so a struct of both would be needed in two kinds.
 impl XorGraph {
     // One more incidence in a byte.
     pub const STEP: u8 = 4;

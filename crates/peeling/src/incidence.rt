@@ -1,4 +1,4 @@
-// The record of one vertex, for whoever knows that the vertex lies in both slices.
+// The record of one vertex, for whoever knows that the vertex lies in both slices, which come apart as in `graph`.
 ghost use Rattle.std.specs.Prelude.{◌≡◌, ◌+◌, ◌%◌, ◌≤◌, ◌<◌, [], length, get_or};
 ghost use Rattle.peeling.specs.Graph.{graph_of, add, overflows, remove, clear, degree_of, sides_of};
 
@@ -12,10 +12,10 @@ pub fn add_at(edges: &mut [u32], degrees: &mut [u8], v: Vertex, x: EdgeNo, side:
     ensures graph { graph_of edges.new degrees.new ≡ add (graph_of edges.old degrees.old) v.0 x.0 side }
 {
     let i = v.0 as usize;
-    let byte = degrees[i];
-    degrees[i] = raised(byte) ^ side;
-    edges[i] = edges[i] ^ x.0;
-    252 <= byte
+    let (byte, over) = degrees[i].overflowing_add(XorGraph::STEP);
+    degrees[i] = byte ^ side;
+    edges[i] ^= x.0;
+    over
 }
 
 pub fn remove_at(edges: &mut [u32], degrees: &mut [u8], v: Vertex, x: EdgeNo, side: u8)
@@ -24,7 +24,7 @@ pub fn remove_at(edges: &mut [u32], degrees: &mut [u8], v: Vertex, x: EdgeNo, si
 {
     let i = v.0 as usize;
     degrees[i] = (degrees[i] - XorGraph::STEP) ^ side;
-    edges[i] = edges[i] ^ x.0;
+    edges[i] ^= x.0;
 }
 
 // The edge and the side stay.
@@ -33,7 +33,7 @@ pub fn zero_at(degrees: &mut [u8], v: Vertex)
     ensures { degrees.new ≡ (clear (graph_of [] degrees.old) v.0).degrees }
 {
     let i = v.0 as usize;
-    degrees[i] = degrees[i] & XorGraph::MASK;
+    degrees[i] &= XorGraph::MASK;
 }
 
 pub fn degree_at(degrees: &[u8], v: Vertex) -> u8
@@ -58,12 +58,4 @@ pub fn number_at(edges: &[u32], v: Vertex) -> EdgeNo
 {
     let i = v.0 as usize;
     EdgeNo(edges[i])
-}
-
-// One incidence more; a byte that has no room begins anew.
-fn raised(byte: u8) -> u8
-    ensures { result ≡ (byte + 4) % 256 }
-{
-    let sum = byte as u32 + XorGraph::STEP as u32;
-    (sum % 256) as u8
 }
