@@ -1,52 +1,42 @@
 -- The loops over the table that check the edges, take them in, and fill their cells.
-use mathlib.Core.Path.{◌≡◌, refl, sym, ap, ◌∙◌}
-use mathlib.Core.List.{List, [], ◌∷◌}
-use mathlib.Core.Bool.{Bool, true, false, cond}
-use Prim.Native.Nat.{ℕ, zero, suc, ◌+◌, ◌-◌, ◌≤◌, ◌<◌}
-use native.Mathlib.Omega.{arith}
-use native.Mathlib.Numerals.{add-one}
-use lib.ListN.{length, get_or, drop}
+use Rattle.std.proofs.Common.{◌≡◌, refl, sym, ap, ◌∙◌, List, [], ◌∷◌, Bool, true, false, not, cond, ℕ, zero, suc, ◌+◌, ◌-◌, ◌≤◌, ◌<◌, ltb, length, get_or, drop, Option, Some, None, arith, add-one}
+use Rattle.std.specs.Option.{unwrap_or}
+use Rattle.std.specs.List.{position_or_len}
+use Rattle.std.proofs.lemmas.List.Recursion.{is_position_or_len}
+use Rattle.std.proofs.lemmas.List.Sums.{prefix_len-le-length}
+use lib.Seq.{drop-length}
+use borrow.Author.Tests.{ltb-false}
 use Rattle.gf2.specs.Equation.{Each}
 use Rattle.peeling.specs.declared.numbers.Edge.{Edge}
-use Rattle.peeling.specs.Graph.{Graph, graph_of}
+use Rattle.peeling.specs.declared.numbers.Vertex.{Vertex}
+use Rattle.peeling.specs.Graph.{graph_of}
 use Rattle.peel_rules.specs.Edges.{Valid, is_valid, bad_edge}
 use Rattle.peel_rules.specs.Peel.{fill, fill_one}
 use Rattle.peel_rules.specs.Machine.{no_edge, side_from, add_edge, build, noted_edge, crowd_of}
+use Rattle.peel_steps.specs.Lowest.{vertex_or}
 use Rattle.peel_steps.specs.Pictures.{number_at, side_no_at, peeled_in}
 use Rattle.walk_rules.proofs.Loops.{drop_at}
 
-drop_end : (l : List Edge) (i : ℕ) → length l ≤ i → drop i l ≡ []
-drop_end [] zero h = refl
-drop_end [] (suc i) h = refl
-drop_end (e ∷ l) zero h = absurd (omega arith)
-drop_end (e ∷ l) (suc i) h = drop_end l i (omega arith)
+-- ---- the lowest edge that does not keep its rule
 
--- ---- the edges up to i keep their rule
-pub record Checking (n : ℕ) (T : List Edge) (i : ℕ) : Type 0 where
-  pub is : i + bad_edge n (drop i T) ≡ bad_edge n T
-  pub within : i ≤ length T
-
-pub checking_begin : (n : ℕ) (T : List Edge) → Checking n T 0
-checking_begin n T = record { is = omega arith; within = omega arith }
-
-module _ {n i : ℕ} {T : List Edge} {b : Bool} {e : Edge} (c : Checking n T i) (h : i < length T) (he : e ≡ get_or T i no_edge) (hb : b ≡ is_valid n e) where
-  here : bad_edge n (drop i T) ≡ cond b (suc (bad_edge n (drop (i + 1) T))) 0
-  unfolding bad_edge
-  here = ap (bad_edge n) (drop_at T i no_edge h) ∙ ap (λ (t : Bool). cond t (suc (bad_edge n (drop (i + 1) T))) 0) (sym (hb ∙ ap (is_valid n) he))
-
-  pub checking_turn : b ≡ true → Checking n T (i + 1)
-  checking_turn q =
-      let p : bad_edge n (drop i T) ≡ suc (bad_edge n (drop (i + 1) T)) = here ∙ ap (λ (t : Bool). cond t (suc (bad_edge n (drop (i + 1) T))) 0) q in
-      record { is = omega (arith, c.is, p); within = omega arith }
-
-  pub checking_stop : b ≡ false → i ≡ bad_edge n T
-  checking_stop q =
-      let p : bad_edge n (drop i T) ≡ 0 = here ∙ ap (λ (t : Bool). cond t (suc (bad_edge n (drop (i + 1) T))) 0) q in
-      omega (arith, c.is, p)
-
-pub checking_end : {n i : ℕ} {T : List Edge} → Checking n T i → length T ≤ i → i ≡ bad_edge n T
+bad_edge_is : (n : ℕ) (T : List Edge) → bad_edge n T ≡ position_or_len (λ e. not (is_valid n e)) T
 unfolding bad_edge
-checking_end {n} {i} {T} c h = let p : bad_edge n (drop i T) ≡ 0 = ap (bad_edge n) (drop_end T i h) in omega (arith, c.is, p)
+bad_edge_is n T = is_position_or_len (bad_edge n) (λ e. not (is_valid n e)) refl (λ e es. step (is_valid n e) (bad_edge n es)) T
+  where
+    step : (b : Bool) (k : ℕ) → cond b (suc k) 0 ≡ cond (not b) 0 (1 + k)
+    step true k = omega arith
+    step false k = refl
+
+pub bad_edge_found : (n : ℕ) (T : List Edge) (r : Option ℕ) → r ≡ cond (ltb (position_or_len (λ e. not (is_valid n e)) T) (length T)) (Some (position_or_len (λ e. not (is_valid n e)) T)) None
+    → unwrap_or r (length T) ≡ bad_edge n T
+bad_edge_found n T r h = rw (h, bad_edge_is n T) (go (ltb first (length T)) refl)
+  where
+    first : ℕ
+    first = position_or_len (λ e. not (is_valid n e)) T
+
+    go : (b : Bool) → ltb first (length T) ≡ b → unwrap_or (cond b (Some first) None) (length T) ≡ first
+    go true q = refl
+    go false q = omega (arith, ltb-false first (length T) q, prefix_len-le-length (λ e. not (not (is_valid n e))) T)
 
 -- ---- an edge of a table that keeps its rule
 pub valid_at : {n : ℕ} (T : List Edge) (i : ℕ) → Each (Valid n) T → i < length T → Valid n (get_or T i no_edge)
@@ -58,65 +48,44 @@ pub valid_more : {n m : ℕ} {e : Edge} → n ≤ m → Valid n e → Valid m e
 valid_more h v = record { a< = omega (arith, v.a<); b< = omega (arith, v.b<); c< = omega (arith, v.c<); a≢b = v.a≢b; a≢c = v.a≢c; b≢c = v.b≢c }
 
 -- ---- the edges up to i are taken in
-pub record Building (n : ℕ) (T : List Edge) (numbers₀ bytes₀ : List ℕ) (i : ℕ) (numbers bytes : List ℕ) (low : ℕ) : Type 0 where
+pub record Building (T : List Edge) (numbers₀ bytes₀ : List ℕ) (i : ℕ) (numbers bytes : List ℕ) (low : Option Vertex) : Type 0 where
   pub graph : build i (drop i T) (graph_of numbers bytes) ≡ build 0 T (graph_of numbers₀ bytes₀)
-  pub crowd : crowd_of i (drop i T) (graph_of numbers bytes) low ≡ crowd_of 0 T (graph_of numbers₀ bytes₀) n
-  pub long : length numbers ≡ length numbers₀
-  pub long_b : length bytes ≡ length bytes₀
-  pub within : i ≤ length T
+  pub crowd : (n : ℕ) → Each (Valid n) T → crowd_of i (drop i T) (graph_of numbers bytes) (vertex_or n low) ≡ crowd_of 0 T (graph_of numbers₀ bytes₀) n
 
-pub building_begin : (n : ℕ) (T : List Edge) (numbers bytes : List ℕ) → Building n T numbers bytes 0 numbers bytes n
-building_begin n T numbers bytes = record { graph = refl; crowd = refl; long = refl; long_b = refl; within = omega arith }
-
-pub building_turn : {n i low r : ℕ} {T : List Edge} {numbers₀ bytes₀ numbers bytes numbers₁ bytes₁ : List ℕ} {e : Edge} → Building n T numbers₀ bytes₀ i numbers bytes low → i < length T → e ≡ get_or T i no_edge
-    → (r ≡ noted_edge (graph_of numbers bytes) i e low) × (graph_of numbers₁ bytes₁ ≡ add_edge (graph_of numbers bytes) i e) → length numbers₁ ≡ length numbers → length bytes₁ ≡ length bytes
-    → Building n T numbers₀ bytes₀ (i + 1) numbers₁ bytes₁ r
+pub building_turn : {i : ℕ} {T : List Edge} {numbers₀ bytes₀ numbers bytes numbers₁ bytes₁ : List ℕ} {low r : Option Vertex} {e : Edge} → Building T numbers₀ bytes₀ i numbers bytes low → i < length T → e ≡ get_or T i no_edge
+    → ((n : ℕ) → Valid n e → vertex_or n r ≡ noted_edge (graph_of numbers bytes) i e (vertex_or n low)) → graph_of numbers₁ bytes₁ ≡ add_edge (graph_of numbers bytes) i e
+    → Building T numbers₀ bytes₀ (i + 1) numbers₁ bytes₁ r
 unfolding build crowd_of
-building_turn {n} {i} {low} {r} {T} {numbers₀} {bytes₀} {numbers} {bytes} {numbers₁} {bytes₁} {e} b h he s l l' = record {
-  graph = ap (λ (k : ℕ). build k (drop (i + 1) T) (graph_of numbers₁ bytes₁)) (add-one i) ∙ ap (build (suc i) (drop (i + 1) T)) s.1 ∙ ap (λ (d : Edge). build (suc i) (drop (i + 1) T) (add_edge (graph_of numbers bytes) i d)) he
-      ∙ ap (λ (l : List Edge). build i l (graph_of numbers bytes)) (sym (drop_at T i no_edge h)) ∙ b.graph;
-  crowd = ap (λ (k : ℕ). crowd_of k (drop (i + 1) T) (graph_of numbers₁ bytes₁) r) (add-one i) ∙ ap (λ (g : Graph). crowd_of (suc i) (drop (i + 1) T) g r) s.1 ∙ ap (crowd_of (suc i) (drop (i + 1) T) (add_edge (graph_of numbers bytes) i e)) s.0
-      ∙ ap (λ (d : Edge). crowd_of (suc i) (drop (i + 1) T) (add_edge (graph_of numbers bytes) i d) (noted_edge (graph_of numbers bytes) i d low)) he
-      ∙ ap (λ (l : List Edge). crowd_of i l (graph_of numbers bytes) low) (sym (drop_at T i no_edge h)) ∙ b.crowd;
-  long = l ∙ b.long;
-  long_b = l' ∙ b.long_b;
-  within = omega arith;
-}
-
-pub building_end : {n i low : ℕ} {T : List Edge} {numbers₀ bytes₀ numbers bytes : List ℕ} → Building n T numbers₀ bytes₀ i numbers bytes low → length T ≤ i
-    → (low ≡ crowd_of 0 T (graph_of numbers₀ bytes₀) n) × (graph_of numbers bytes ≡ build 0 T (graph_of numbers₀ bytes₀))
-unfolding build crowd_of
-building_end {n} {i} {low} {T} {numbers₀} {bytes₀} {numbers} {bytes} b h = (
-  ap (λ (l : List Edge). crowd_of i l (graph_of numbers bytes) low) (sym (drop_end T i h)) ∙ b.crowd,
-  ap (λ (l : List Edge). build i l (graph_of numbers bytes)) (sym (drop_end T i h)) ∙ b.graph,
-)
-
--- ---- k edges are left to fill
-pub record Filling (high : Bool) (n : ℕ) (T : List Edge) (count : ℕ) (numbers bytes cells₀ : List ℕ) (k : ℕ) (cells : List ℕ) : Type 0 where
-  pub left : fill (peeled_in high T n k numbers bytes) cells ≡ fill (peeled_in high T n count numbers bytes) cells₀
-  pub within : k ≤ count
-  pub long : length cells ≡ length cells₀
-
-pub filling_begin : (high : Bool) (n : ℕ) (T : List Edge) (count : ℕ) (numbers bytes cells : List ℕ) → Filling high n T count numbers bytes cells count cells
-filling_begin high n T count numbers bytes cells = record { left = refl; within = omega arith; long = refl }
-
-pub filling_turn : {high : Bool} {n count k : ℕ} {T : List Edge} {numbers bytes cells₀ cells cells₁ : List ℕ} {i t : ℕ} {e : Edge} → Filling high n T count numbers bytes cells₀ k cells → 0 < k
-    → (i ≡ number_at high n (k - 1) numbers) × (t ≡ side_no_at high n (k - 1) numbers bytes) → e ≡ get_or T i no_edge → cells₁ ≡ fill_one (record { edge = e; side = side_from t }) cells → length cells₁ ≡ length cells
-    → Filling high n T count numbers bytes cells₀ (k - 1) cells₁
-unfolding peeled_in fill
-filling_turn {high} {n} {count} {k} {T} {numbers} {bytes} {cells₀} {cells} {cells₁} {i} {t} {e} f h s he hc l = record {
-  left = ap (fill (peeled_in high T n (k - 1) numbers bytes)) (hc ∙ ap (λ (d : Edge). fill_one (record { edge = d; side = side_from t }) cells) (he ∙ ap (λ (j : ℕ). get_or T j no_edge) s.0)
-      ∙ ap (λ (u : ℕ). fill_one (record { edge = get_or T (number_at high n (k - 1) numbers) no_edge; side = side_from u }) cells) s.1)
-      ∙ ap (λ (j : ℕ). fill (peeled_in high T n j numbers bytes) cells) one_less ∙ f.left;
-  within = omega (arith, f.within);
-  long = l ∙ f.long;
+building_turn {i} {T} {numbers₀} {bytes₀} {numbers} {bytes} {numbers₁} {bytes₁} {low} {r} {e} b h he noted added = record {
+  graph = rw (add-one i, added) (ap (λ (l : List Edge). build i l (graph_of numbers bytes)) (sym split) ∙ b.graph);
+  crowd = λ n v. rw (add-one i, added, noted n (rw he (valid_at T i v h))) (ap (λ (l : List Edge). crowd_of i l (graph_of numbers bytes) (vertex_or n low)) (sym split) ∙ b.crowd n v);
 }
   where
-    one_less : suc (k - 1) ≡ k
-    one_less = omega arith
+    split : drop i T ≡ e ∷ drop (suc i) T
+    split = rw (← add-one i, he) (drop_at T i no_edge h)
 
-pub filling_end : {high : Bool} {n count k : ℕ} {T : List Edge} {numbers bytes cells₀ cells : List ℕ} → Filling high n T count numbers bytes cells₀ k cells → k ≤ 0 → cells ≡ fill (peeled_in high T n count numbers bytes) cells₀
+pub building_end : {i : ℕ} {T : List Edge} {numbers₀ bytes₀ numbers bytes : List ℕ} {low : Option Vertex} → Building T numbers₀ bytes₀ i numbers bytes low → i ≡ length T
+    → ((n : ℕ) → Each (Valid n) T → vertex_or n low ≡ crowd_of 0 T (graph_of numbers₀ bytes₀) n) × (graph_of numbers bytes ≡ build 0 T (graph_of numbers₀ bytes₀))
+unfolding build crowd_of
+building_end {i} {T} {numbers₀} {bytes₀} {numbers} {bytes} {low} b h = (
+  λ n v. ap (λ (l : List Edge). crowd_of i l (graph_of numbers bytes) (vertex_or n low)) (sym none_left) ∙ b.crowd n v,
+  ap (λ (l : List Edge). build i l (graph_of numbers bytes)) (sym none_left) ∙ b.graph,
+)
+  where
+    none_left : drop i T ≡ []
+    none_left = rw h (drop-length T)
+
+-- ---- the first k peeled edges are still to fill
+
+pub filled_next : (high : Bool) (n k : ℕ) (T : List Edge) (numbers bytes cells : List ℕ) {cells₁ : List ℕ} → 0 < k
+    → cells₁ ≡ fill_one (record { edge = get_or T (number_at high n (k - 1) numbers) no_edge; side = side_from (side_no_at high n (k - 1) numbers bytes) }) cells
+    → fill (peeled_in high T n (k - 1) numbers bytes) cells₁ ≡ fill (peeled_in high T n k numbers bytes) cells
 unfolding peeled_in fill
-filling_end {high} {n} {count} {k} {T} {numbers} {bytes} {cells₀} {cells} f h =
-    let z : 0 ≡ k = omega arith in
-    ap (λ (j : ℕ). fill (peeled_in high T n j numbers bytes) cells) z ∙ f.left
+filled_next high n k T numbers bytes cells h e =
+    let one_more : suc (k - 1) ≡ k = omega arith in
+    ap (fill (peeled_in high T n (k - 1) numbers bytes)) e ∙ ap (λ (j : ℕ). fill (peeled_in high T n j numbers bytes) cells) one_more
+
+pub none_to_fill : (high : Bool) (n k : ℕ) (T : List Edge) (numbers bytes cells : List ℕ) → k ≤ 0 → fill (peeled_in high T n k numbers bytes) cells ≡ cells
+unfolding peeled_in fill
+none_to_fill high n zero T numbers bytes cells h = refl
+none_to_fill high n (suc k) T numbers bytes cells h = absurd (omega arith)

@@ -5,8 +5,8 @@ use Rattle.peel_walks.proofs.loops.peel.Given as goal
 
 -- some pops of the rules' run are done
 abbrev pub invariant-loop-h : goal.invariant-loop-h
-invariant-loop-h l = Loop l.fn.high l.fn.n l.fn.edges l.fn.numbers l.fn.bytes l.numbers l.bytes l.h
+invariant-loop-h g l = Loop g.M.Memory.high l.fn.n l.fn.edges l.fn.numbers l.fn.bytes l.numbers l.bytes l.h
 
 -- the vertices on the stack, and those that may come on it
 abbrev pub decreases-loop-h : goal.decreases-loop-h
-decreases-loop-h l = work l.fn.n (graph_in l.fn.n l.numbers l.bytes) (stack_in l.fn.n l.h.stack l.numbers)
+decreases-loop-h g l = work l.fn.n (graph_in l.fn.n l.numbers l.bytes) (stack_in l.fn.n l.h.stack l.numbers)

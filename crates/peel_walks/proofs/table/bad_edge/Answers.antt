@@ -1,11 +1,11 @@
-use Rattle.peel_walks.proofs.TableLaws.{checking_turn, checking_stop, checking_end}
+use Rattle.std.proofs.Common.{not, rules}
+use Rattle.std.proofs.lemmas.Iterator.{YieldsList-from_slice}
+use Rattle.std.proofs.lemmas.Iterator.Search.{position_from_yields_List}
+use Rattle.peel_rules.specs.Edges.{is_valid}
+use Rattle.peel_walks.proofs.TableLaws.{bad_edge_found}
 use Rattle.peel_walks.proofs.table.bad_edge.Goals as goal
 
-pub loop-i-preserved : goal.loop-i-preserved
-loop-i-preserved c = checking_turn c.loop-i.invariant c.loop-i-test.true c.edge_at-e.ensures c.keeps_rule-good.ensures c.if-good.true
-
-pub returns-else-good : goal.returns-else-good
-returns-else-good c = checking_stop c.loop-i.invariant c.loop-i-test.true c.edge_at-e.ensures c.keeps_rule-good.ensures c.if-good.false
-
 pub returns : goal.returns
-returns c = checking_end c.loop-i.invariant c.loop-i-test.false
+returns c =
+    bad_edge_found c.args.n c.args.edges.now _
+    (position_from_yields_List (λ e. not (is_valid c.args.n e)) _ _ _ c.position.ensures.ran (YieldsList-from_slice c.args.edges.now cc) (λ x b q k. search (rules, k)))
