@@ -41,6 +41,11 @@ size_fits h k w g f l =
     let m : k * w ≤ 4294967295 * 4 = mul-le-mul b f in
     (omega arith, omega arith)
 
+-- what has been read in two steps
+pub passed_more : {a b : ℕ} {old mid new : Rows} → Passed a old mid → Passed b mid new → Passed (a + b) old new
+passed_more {a} {b} {old} {mid} {new} p q =
+    record { rest = q.rest ∙ rw p.rest (drop-drop b a old.rest.now); kind = q.kind ∙ p.kind; width = q.width ∙ p.width }
+
 -- the row behind its count
 pub row_rest : (old now : Rows) (listed : ℕ) → listed ≡ count_of old → count_bytes_of old ≤ length old.rest.now → Passed (count_bytes_of old) old now
     → (row_bytes_of old ≡ count_bytes_of old + (listed * now.width + 8)) × (drop (listed * now.width + 8) now.rest.now ≡ drop (row_bytes_of old) old.rest.now)

@@ -4,7 +4,7 @@ use Rattle.std.proofs.Math.Option as read
 use Rattle.gf2.specs.Equation.{Equation}
 use Rattle.link_form.specs.declared.kind.Kind.{Kind}
 use Rattle.link_form.specs.declared.rows.Rows.{Rows}
-use Rattle.link_form.specs.File.{header_bytes, width, count_bytes, count, row_bytes, read_rows}
+use Rattle.link_form.specs.File.{header_bytes, width, count_bytes, count, row_bytes, row, read_rows}
 use Rattle.link_form.specs.Kinds.{number_of_kind}
 
 -- the bytes that say how many variables the next row lists
@@ -18,6 +18,10 @@ count_of r = count (number_of_kind r.kind) r.width r.rest.now
 -- its length in bytes
 abbrev pub row_bytes_of : Rows → ℕ
 row_bytes_of r = row_bytes (number_of_kind r.kind) r.width r.rest.now
+
+-- the row itself
+abbrev pub row_of : Rows → Equation
+row_of r = row (number_of_kind r.kind) r.width r.rest.now
 
 -- m rows and nothing after them
 abbrev pub rows_of : ℕ → Rows → read.Option (List Equation)

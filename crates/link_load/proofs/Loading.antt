@@ -3,21 +3,24 @@ use mathlib.Core.Path.{◌≡◌, refl, sym, ap, ◌∙◌}
 use mathlib.Core.List.{List, [], ◌∷◌, ◌++◌}
 use mathlib.Core.Option.{some}
 use Prim.Native.Nat.{ℕ, zero, suc, ◌+◌, ◌-◌, ◌*◌, ◌≤◌, ◌<◌}
-use native.Mathlib.Nat.{zero-add, le_refl, mul-le-mul, mul-le-mul_right, suc-mul}
+use native.Mathlib.Nat.{zero-add, mul-le-mul_right, suc-mul}
 use native.Mathlib.Numerals.{add-one}
 use native.Mathlib.Omega.{arith}
-use lib.ListN.{length, take, drop, set, length-set}
-use lib.Seq.{drop-drop, set-set, length-take-le, take_all}
+use lib.ListN.{length, take, drop, set, length-set, length-drop}
+use lib.Seq.{drop-drop, length-take-le}
 use Rattle.gf2.specs.Equation.{Equation}
-use Rattle.areas.specs.Stretch.{stretch, put}
-use Rattle.areas.proofs.Stretch.{put_none, put_more, put_then, put-put_over, length-put, set_is_put}
+use Rattle.areas.specs.Stretch.{put, stretch}
+use Rattle.areas.proofs.Stretch.{put_none, put_more, put_then, length-put, set_is_put}
 use Rattle.system.specs.Fits.{listed_in}
-use Rattle.link_form.specs.Bytes.{little, field, fields}
-use Rattle.link_form.specs.File.{max_bytes, count_bytes, count, row_bytes, row, read_rows}
-use Rattle.link_load.specs.Loading.{starts_from, starts_of, vars_of, constants_of}
-use Rattle.link_form.proofs.Scanning.{length_fields, length_row, length_rows, listed_fits}
-use Rattle.link_load.proofs.LaidRows.{length_starts, length_vars, length_constants, starts_snoc, vars_snoc, constants_snoc, listed_snoc, listed_take}
+use Rattle.link_form.specs.declared.rows.Rows.{Rows}
+use Rattle.link_form.specs.Bytes.{little, fields}
+use Rattle.link_form.specs.File.{row_bytes, row}
+use Rattle.link_form.specs.Kinds.{number_of_kind}
+use Rattle.link_form.specs.Rows.{count_bytes_of, count_of, row_bytes_of, row_of, rows_of, Passed}
 use Rattle.link_form.proofs.NextRow.{next_row}
+use Rattle.link_form.proofs.Scanning.{length_fields, length_row, length_rows, listed_fits, passed_more}
+use Rattle.link_load.specs.Loading.{starts_from, starts_of, vars_of, constants_of}
+use Rattle.link_load.proofs.LaidRows.{length_starts, length_vars, length_constants, starts_snoc, vars_snoc, constants_snoc, listed_snoc, listed_take}
 
 -- ---- numbers one after the other
 
@@ -29,83 +32,82 @@ fields_snoc w (suc i) bytes =
     let q : suc i + 1 ≡ suc (i + 1) = omega arith in
     rw (q, e, ← (drop-drop (i * w) w bytes)) (ap (λ (l : List ℕ). little (take w bytes) ∷ l) (fields_snoc w i (drop w bytes)))
 
--- i of `count` numbers from `at` on stand in `vars` from `to` on, and the next begins at p
-pub record Noting (bytes : List ℕ) (at w count : ℕ) (before : List ℕ) (to p i : ℕ) (vars : List ℕ) : Type 0 where
-  pub done : i ≤ count
-  pub room : at + count * w ≤ length bytes
-  pub short : length bytes ≤ max_bytes
-  pub narrow : w ≤ 4
-  pub space : to + count ≤ length before
+-- i of the row's variables stand in `vars` from `to` on
+pub record Noting (begin now : Rows) (before : List ℕ) (to i : ℕ) (vars : List ℕ) : Type 0 where
   pub long : length vars ≡ length before
-  pub place : p ≡ at + i * w
-  pub so_far : vars ≡ put to (fields w i (drop at bytes)) before
+  pub passed : Passed (i * begin.width) begin now
+  pub so_far : vars ≡ put to (fields begin.width i begin.rest.now) before
 
-pub noting_begin : (bytes : List ℕ) (at w count : ℕ) (before : List ℕ) (to : ℕ) → at + count * w ≤ length bytes → length bytes ≤ max_bytes → w ≤ 4 → to + count ≤ length before
-    → Noting bytes at w count before to at 0 before
+pub noting_begin : (begin : Rows) (before : List ℕ) (to : ℕ) → to ≤ length before → Noting begin begin before to 0 before
 unfolding fields
-noting_begin bytes at w count before to r s n h =
-    record { done = omega arith; room = r; short = s; narrow = n; space = h; long = refl; place = omega arith; so_far = sym (put_none to before) }
+noting_begin begin before to h =
+    let z : 0 * begin.width ≡ 0 = omega arith in
+    record { long = refl; passed = rw z (record { rest = refl; kind = refl; width = refl }); so_far = sym (put_none to before) }
 
--- the next number is there
-pub noting_room : {bytes : List ℕ} {at w count : ℕ} {before : List ℕ} {to p i : ℕ} {vars : List ℕ} → Noting bytes at w count before to p i vars → i < count → p + w ≤ length bytes
-noting_room {bytes} {at} {w} {count} {before} {to} {p} {i} n h =
-    let a = mul-le-mul_right w h in
-    let b = suc-mul i w in
-    omega (arith, n.room, n.place)
+-- the next variable is there
+pub noting_room : {begin now : Rows} {before : List ℕ} {to i : ℕ} {vars : List ℕ} (count : ℕ) → Noting begin now before to i vars → i < count
+    → count * begin.width ≤ length begin.rest.now → now.width ≤ length now.rest.now
+noting_room {begin} {now} {before} {to} {i} count n h r =
+    let p = n.passed in
+    let a = mul-le-mul_right begin.width h in
+    let b = suc-mul i begin.width in
+    let d = length-drop (i * begin.width) begin.rest.now in
+    rw (p.width, p.rest) (omega arith)
 
-pub noting_turn : {bytes : List ℕ} {at w count : ℕ} {before : List ℕ} {to p i : ℕ} {vars : List ℕ} {v : ℕ} → Noting bytes at w count before to p i vars → i < count → v ≡ field w p bytes
-    → Noting bytes at w count before to (p + w) (i + 1) (set vars (to + i) v)
-unfolding stretch
-noting_turn {bytes} {at} {w} {count} {before} {to} {p} {i} {vars} {v} n h e =
-    let s = n.space in
-    let l : length (fields w i (drop at bytes)) ≡ i = length_fields w i (drop at bytes) in
-    let q : v ≡ little (take w (drop (i * w) (drop at bytes))) = e ∙ rw (n.place, ← (drop-drop (i * w) at bytes)) in
+pub noting_turn : {begin now next : Rows} {before : List ℕ} {to i : ℕ} {vars : List ℕ} {v : ℕ} (count : ℕ) → Noting begin now before to i vars → i < count → to + count ≤ length before
+    → v ≡ little (take now.width now.rest.now) → Passed now.width now next → Noting begin next before to (i + 1) (set vars (to + i) v)
+noting_turn {begin} {now} {next} {before} {to} {i} {vars} {v} count n h s e q =
+    let p = n.passed in
+    let w = p.width in
+    let l : length (fields begin.width i begin.rest.now) ≡ i = length_fields begin.width i begin.rest.now in
+    let x : v ≡ little (take begin.width (drop (i * begin.width) begin.rest.now)) = e ∙ rw (p.width, p.rest) in
+    let m : (i + 1) * begin.width ≡ i * begin.width + now.width = let b = suc-mul i begin.width in let r = add-one i in rw r (omega arith) in
     record {
-      done = omega arith;
-      room = n.room;
-      short = n.short;
-      narrow = n.narrow;
-      space = s;
       long = simp length-set n.long;
-      place = let b = suc-mul i w in let r = add-one i in rw r (omega (arith, n.place));
+      passed = rw m (passed_more p q);
       so_far =
           ap (λ (x : List ℕ). set x (to + i) v) n.so_far
-          ∙ ap (λ (k : ℕ). set (put to (fields w i (drop at bytes)) before) (to + k) v) (sym l)
-          ∙ put_more to v (fields w i (drop at bytes)) before (omega arith)
-          ∙ ap (λ (x : ℕ). put to (fields w i (drop at bytes) ++ (x ∷ [])) before) q
-          ∙ ap (λ (x : List ℕ). put to x before) (sym (fields_snoc w i (drop at bytes)));
+          ∙ ap (λ (k : ℕ). set (put to (fields begin.width i begin.rest.now) before) (to + k) v) (sym l)
+          ∙ put_more to v (fields begin.width i begin.rest.now) before (omega arith)
+          ∙ ap (λ (x : ℕ). put to (fields begin.width i begin.rest.now ++ (x ∷ [])) before) x
+          ∙ ap (λ (x : List ℕ). put to x before) (sym (fields_snoc begin.width i begin.rest.now));
     }
-
-pub noting_end : {bytes : List ℕ} {at w count : ℕ} {before : List ℕ} {to p i : ℕ} {vars : List ℕ} → Noting bytes at w count before to p i vars → count ≤ i
-    → vars ≡ put to (fields w count (drop at bytes)) before
-noting_end {bytes} {at} {w} {count} {before} {to} {p} {i} {vars} n h =
-    let d = n.done in
-    let e : i ≡ count = omega arith in
-    rw e at n.so_far
 
 -- ---- one row
 
-module _ (kind w p : ℕ) (bytes : List ℕ) where
-  pub row_rooms : p + row_bytes kind w (drop p bytes) ≤ length bytes
-      → (p + count_bytes kind w ≤ length bytes) × (p + count_bytes kind w + count kind w (drop p bytes) * w + 8 ≤ length bytes)
+module _ (rows : Rows) where
+  pub row_rooms : row_bytes_of rows ≤ length rows.rest.now → count_bytes_of rows + count_of rows * rows.width + 8 ≤ length rows.rest.now
   unfolding row_bytes
-  row_rooms h = (omega arith, omega arith)
+  row_rooms h = h
 
-  pub row_vars : (row kind w (drop p bytes)).vars ≡ fields w (count kind w (drop p bytes)) (drop (p + count_bytes kind w) bytes)
+  pub row_vars : (row_of rows).vars ≡ fields rows.width (count_of rows) (drop (count_bytes_of rows) rows.rest.now)
   unfolding row
-  row_vars = rw (drop-drop (count_bytes kind w) p bytes)
+  row_vars = refl
 
-  pub row_constant : (row kind w (drop p bytes)).c ≡ field 8 (p + count_bytes kind w + count kind w (drop p bytes) * w) bytes
+  pub row_constant : (row_of rows).c ≡ little (take 8 (drop (count_bytes_of rows + count_of rows * rows.width) rows.rest.now))
   unfolding row stretch
-  row_constant =
-      let e : p + (count_bytes kind w + count kind w (drop p bytes) * w) ≡ p + count_bytes kind w + count kind w (drop p bytes) * w = omega arith in
-      rw (drop-drop (count_bytes kind w + count kind w (drop p bytes) * w) p bytes, e)
+  row_constant = refl
+
+  -- a row is its variables and its constant
+  sized : count_bytes_of rows + count_of rows * rows.width + 8 ≡ row_bytes_of rows
+  unfolding row_bytes
+  sized = refl
+
+-- the constant stands behind the variables
+pub constant_room : {rows mid : Rows} → row_bytes_of rows ≤ length rows.rest.now → Passed (count_bytes_of rows + count_of rows * rows.width) rows mid → 8 ≤ length mid.rest.now
+constant_room {rows} {mid} h p =
+    let r = row_rooms rows h in
+    let d = length-drop (count_bytes_of rows + count_of rows * rows.width) rows.rest.now in
+    rw p.rest (omega arith)
+
+-- the variables stand behind the count
+pub vars_room : {rows mid : Rows} → row_bytes_of rows ≤ length rows.rest.now → Passed (count_bytes_of rows) rows mid → count_of rows * mid.width ≤ length mid.rest.now
+vars_room {rows} {mid} h p =
+    let r = row_rooms rows h in
+    let d = length-drop (count_bytes_of rows) rows.rest.now in
+    rw (p.rest, p.width) (omega arith)
 
 -- ---- all rows
-
-sized : (kind w p : ℕ) (bytes : List ℕ) → p + count_bytes kind w + count kind w (drop p bytes) * w + 8 ≡ p + row_bytes kind w (drop p bytes)
-unfolding row_bytes
-sized kind w p bytes = omega arith
 
 -- one number more, and a list more, behind what is laid out
 number_more : (before area s : List ℕ) (i v : ℕ) → area ≡ put 0 s before → length s ≡ i → i < length before → set area i v ≡ put 0 (s ++ (v ∷ [])) before
@@ -118,14 +120,9 @@ list_more before area s more t e l h =
     let z : 0 + length s ≡ length s = zero-add (length s) in
     rw (e, ← l) (rw z at (put_then 0 s more before (omega arith)))
 
--- i of m rows are laid out: they end at p and list t variables
-pub record Loading (bytes : List ℕ) (kind w m : ℕ) (rows : List Equation) (starts₀ vars₀ constants₀ starts vars constants : List ℕ) (p t i : ℕ) : Type 0 where
-  pub done : i ≤ m
-  pub inside : p ≤ length bytes
-  pub short : length bytes ≤ max_bytes
-  pub wide : 1 ≤ w
-  pub narrow : w ≤ 4
-  pub few : t ≤ p
+-- i of m rows are laid out, and list t variables
+pub record Loading (begin now : Rows) (m : ℕ) (rows : List Equation) (starts₀ vars₀ constants₀ starts vars constants : List ℕ) (t i : ℕ) : Type 0 where
+  pub few : t + length now.rest.now ≤ length begin.rest.now
   pub many : length rows ≡ m
   pub starts_room : m + 1 ≤ length starts₀
   pub vars_room : listed_in rows ≤ length vars₀
@@ -134,64 +131,60 @@ pub record Loading (bytes : List ℕ) (kind w m : ℕ) (rows : List Equation) (s
   pub vars_long : length vars ≡ length vars₀
   pub constants_long : length constants ≡ length constants₀
   pub listed : t ≡ listed_in (take i rows)
-  pub reads : read_rows kind w (m - i) (drop p bytes) ≡ some (drop i rows)
+  pub reads : rows_of (m - i) now ≡ some (drop i rows)
   pub starts_laid : starts ≡ put 0 (starts_of (take i rows)) starts₀
   pub vars_laid : vars ≡ put 0 (vars_of (take i rows)) vars₀
   pub constants_laid : constants ≡ put 0 (constants_of (take i rows)) constants₀
 
 -- the first start is written before the first row
-pub loading_begin : (bytes : List ℕ) (kind w m at : ℕ) (rows : List Equation) (starts vars constants : List ℕ) → read_rows kind w m (drop at bytes) ≡ some rows
-    → at ≤ length bytes → length bytes ≤ max_bytes → 1 ≤ w → w ≤ 4 → m + 1 ≤ length starts → listed_in rows ≤ length vars → m ≤ length constants
-    → Loading bytes kind w m rows (set starts 0 0) vars constants (set starts 0 0) vars constants at 0 0
+pub loading_begin : (begin : Rows) (m : ℕ) (rows : List Equation) (starts vars constants : List ℕ) → rows_of m begin ≡ some rows
+    → m + 1 ≤ length starts → listed_in rows ≤ length vars → m ≤ length constants → Loading begin begin m rows starts vars constants (set starts 0 0) vars constants 0 0
 unfolding starts_from vars_of constants_of listed_in
-loading_begin bytes kind w m at rows starts vars constants e g s f n a b c =
+loading_begin begin m rows starts vars constants e a b c =
     let z : m - 0 ≡ m = omega arith in
     record {
-      done = omega arith;
-      inside = g;
-      short = s;
-      wide = f;
-      narrow = n;
       few = omega arith;
-      many = length_rows kind w m (drop at bytes) rows e;
-      starts_room = simp length-set a;
+      many = length_rows (number_of_kind begin.kind) begin.width m begin.rest.now rows e;
+      starts_room = a;
       vars_room = b;
       constants_room = c;
-      starts_long = refl;
+      starts_long = simp length-set;
       vars_long = refl;
       constants_long = refl;
       listed = refl;
       reads = rw z e;
-      starts_laid = sym (set-set starts 0 0 0) ∙ set_is_put 0 0 (set starts 0 0) (simp length-set (omega arith));
+      starts_laid = set_is_put 0 0 starts (omega arith);
       vars_laid = sym (put_none 0 vars);
       constants_laid = sym (put_none 0 constants);
     }
 
-pub first_start : (rows : List Equation) (starts : List ℕ) → 0 < length starts → put 0 (starts_of rows) (set starts 0 0) ≡ put 0 (starts_of rows) starts
-first_start rows starts h =
-    let l = length_starts 0 rows in
-    rw (set_is_put 0 0 starts h) (put-put_over 0 0 (starts_of rows) (0 ∷ []) starts (omega arith) (omega arith) (omega arith))
-
 -- the next row is there, and its variables have room
-pub loading_room : {bytes : List ℕ} {kind w m : ℕ} {rows : List Equation} {starts₀ vars₀ constants₀ starts vars constants : List ℕ} {p t i : ℕ}
-    → Loading bytes kind w m rows starts₀ vars₀ constants₀ starts vars constants p t i → i < m
-    → (p + row_bytes kind w (drop p bytes) ≤ length bytes) × (t + count kind w (drop p bytes) ≤ length vars)
-loading_room {bytes} {kind} {w} {m} {rows} {p = p} {i = i} l h =
-    let n = next_row bytes kind w m rows p i l.inside h l.reads in
-    let a : listed_in (take (i + 1) rows) ≡ listed_in (take i rows) + count kind w (drop p bytes) =
-    ap listed_in n.more ∙ listed_snoc (take i rows) (row kind w (drop p bytes)) ∙ ap (λ (k : ℕ). listed_in (take i rows) + k) (length_row kind w (drop p bytes)) in
+pub loading_room : {begin now : Rows} {m : ℕ} {rows : List Equation} {starts₀ vars₀ constants₀ starts vars constants : List ℕ} {t i : ℕ}
+    → Loading begin now m rows starts₀ vars₀ constants₀ starts vars constants t i → i < m → (row_bytes_of now ≤ length now.rest.now) × (t + count_of now ≤ length vars)
+loading_room {begin} {now} {m} {rows} {i = i} l h =
+    let n = next_row now.rest.now (number_of_kind now.kind) now.width m rows i h l.reads in
+    let a : listed_in (take (i + 1) rows) ≡ listed_in (take i rows) + count_of now =
+    ap listed_in n.more ∙ listed_snoc (take i rows) (row_of now) ∙ ap (λ (k : ℕ). listed_in (take i rows) + k) (length_row (number_of_kind now.kind) now.width now.rest.now) in
     let b = listed_take (i + 1) rows in
     (n.there, omega (arith, l.listed, l.vars_room, l.vars_long))
 
-pub loading_turn : {bytes : List ℕ} {kind w m : ℕ} {rows : List Equation} {starts₀ vars₀ constants₀ starts vars constants vars₁ : List ℕ} {p t i k h c : ℕ}
-    → Loading bytes kind w m rows starts₀ vars₀ constants₀ starts vars constants p t i → i < m
-    → k ≡ count kind w (drop p bytes) → vars₁ ≡ put t (row kind w (drop p bytes)).vars vars → h ≡ count_bytes kind w → c ≡ field 8 (p + h + k * w) bytes
-    → Loading bytes kind w m rows starts₀ vars₀ constants₀ (set starts (i + 1) (t + k)) vars₁ (set constants i c) (p + h + k * w + 8) (t + k) (i + 1)
-loading_turn {bytes} {kind} {w} {m} {rows} {starts₀} {vars₀} {constants₀} {starts} {vars} {constants} {vars₁} {p} {t} {i} {k} {h} {c} l less ek ev eh ec =
-    let n = next_row bytes kind w m rows p i l.inside less l.reads in
-    let r : Equation = row kind w (drop p bytes) in
+-- no more variables are listed than there are bytes
+pub loading_small : {begin now : Rows} {m : ℕ} {rows : List Equation} {starts₀ vars₀ constants₀ starts vars constants : List ℕ} {t i : ℕ}
+    → Loading begin now m rows starts₀ vars₀ constants₀ starts vars constants t i → i < m → t + count_of now ≤ length begin.rest.now
+loading_small {now = now} l less =
     let room = loading_room l less in
-    let rl : length (row kind w (drop p bytes)).vars ≡ k = length_row kind w (drop p bytes) ∙ sym ek in
+    let fits = listed_fits (number_of_kind now.kind) now.width now.rest.now in
+    omega (arith, l.few, room.0)
+
+pub loading_turn : {begin now mid next : Rows} {m : ℕ} {rows : List Equation} {starts₀ vars₀ constants₀ starts vars constants vars₁ : List ℕ} {t i k c : ℕ}
+    → Loading begin now m rows starts₀ vars₀ constants₀ starts vars constants t i → i < m
+    → k ≡ count_of now → vars₁ ≡ put t (row_of now).vars vars → Passed (count_bytes_of now + count_of now * now.width) now mid
+    → c ≡ little (take 8 mid.rest.now) → Passed 8 mid next
+    → Loading begin next m rows starts₀ vars₀ constants₀ (set starts (i + 1) (t + k)) vars₁ (set constants i c) (t + k) (i + 1)
+loading_turn {begin} {now} {mid} {next} {m} {rows} {starts₀} {vars₀} {constants₀} {starts} {vars} {constants} {vars₁} {t} {i} {k} {c} l less ek ev pm ec pn =
+    let n = next_row now.rest.now (number_of_kind now.kind) now.width m rows i less l.reads in
+    let room = loading_room l less in
+    let rl : length (row_of now).vars ≡ k = length_row (number_of_kind now.kind) now.width now.rest.now ∙ sym ek in
     let done = l.listed in
     let il : length (take i rows) ≡ i = length-take-le i rows (omega (arith, l.many)) in
     let sr = l.starts_room in
@@ -201,51 +194,30 @@ loading_turn {bytes} {kind} {w} {m} {rows} {starts₀} {vars₀} {constants₀} 
     let sl = length_starts 0 (take i rows) in
     let al = length_vars (take i rows) in
     let cl = length_constants (take i rows) in
-    let next : p + h + k * w + 8 ≡ p + row_bytes kind w (drop p bytes) = rw (ek, eh) (sized kind w p bytes) in
-    let fits = listed_fits kind w p bytes l.wide in
-    let m1 : listed_in (take (i + 1) rows) ≡ t + k = ap listed_in n.more ∙ listed_snoc (take i rows) r ∙ rw (← done, rl) in
+    let p : Passed (row_bytes_of now) now next = rw (← (sized now)) (passed_more pm pn) in
+    let d = length-drop (row_bytes_of now) now.rest.now in
+    let fits = listed_fits (number_of_kind now.kind) now.width now.rest.now in
+    let m1 : listed_in (take (i + 1) rows) ≡ t + k = ap listed_in n.more ∙ listed_snoc (take i rows) (row_of now) ∙ rw (← done, rl) in
     let b = listed_take i rows in
     record {
-      done = omega arith;
-      inside = omega (arith, room.0);
-      short = l.short;
-      wide = l.wide;
-      narrow = l.narrow;
-      few = omega (arith, l.few);
+      few = rw p.rest (omega (arith, l.few, room.0));
       many = l.many;
       starts_room = sr;
       vars_room = vr;
       constants_room = cr;
       starts_long = simp length-set l.starts_long;
-      vars_long = rw ev (length-put t (row kind w (drop p bytes)).vars vars (omega (arith, room.1)) ∙ vl);
+      vars_long = rw ev (length-put t (row_of now).vars vars (omega (arith, room.1)) ∙ vl);
       constants_long = simp length-set l.constants_long;
       listed = sym m1;
-      reads = rw next n.reads;
+      reads = rw (p.kind, p.width, p.rest) n.reads;
       starts_laid =
           number_more starts₀ starts (starts_of (take i rows)) (i + 1) (t + k) l.starts_laid (omega arith) (omega arith)
-          ∙ ap (λ (s : List ℕ). put 0 s starts₀) (sym (ap starts_of n.more ∙ starts_snoc 0 (take i rows) r ∙ rw (zero-add (listed_in (take i rows)), ← done, rl)));
+          ∙ ap (λ (s : List ℕ). put 0 s starts₀) (sym (ap starts_of n.more ∙ starts_snoc 0 (take i rows) (row_of now) ∙ rw (zero-add (listed_in (take i rows)), ← done, rl)));
       vars_laid =
           ev
-          ∙ list_more vars₀ vars (vars_of (take i rows)) (row kind w (drop p bytes)).vars t l.vars_laid (omega arith) (omega arith)
-          ∙ ap (λ (s : List ℕ). put 0 s vars₀) (sym (ap vars_of n.more ∙ vars_snoc (take i rows) r));
+          ∙ list_more vars₀ vars (vars_of (take i rows)) (row_of now).vars t l.vars_laid (omega arith) (omega arith)
+          ∙ ap (λ (s : List ℕ). put 0 s vars₀) (sym (ap vars_of n.more ∙ vars_snoc (take i rows) (row_of now)));
       constants_laid =
           number_more constants₀ constants (constants_of (take i rows)) i c l.constants_laid (omega arith) (omega arith)
-          ∙ ap (λ (s : List ℕ). put 0 s constants₀) (sym (ap constants_of n.more ∙ constants_snoc (take i rows) r ∙ rw (row_constant kind w p bytes, ← ek, ← eh, ← ec)));
+          ∙ ap (λ (s : List ℕ). put 0 s constants₀) (sym (ap constants_of n.more ∙ constants_snoc (take i rows) (row_of now) ∙ rw (row_constant now, ← pm.rest, ← ec)));
     }
-
-pub loading_end : {bytes : List ℕ} {kind w m : ℕ} {rows : List Equation} {starts₀ vars₀ constants₀ starts vars constants : List ℕ} {p t i : ℕ}
-    → Loading bytes kind w m rows starts₀ vars₀ constants₀ starts vars constants p t i → m ≤ i
-    → (starts ≡ put 0 (starts_of rows) starts₀) × (vars ≡ put 0 (vars_of rows) vars₀) × (constants ≡ put 0 (constants_of rows) constants₀)
-loading_end {rows = rows} {i = i} l h =
-    let e : take i rows ≡ rows = take_all i rows (omega (arith, l.many)) in
-    (rw e at l.starts_laid, rw e at l.vars_laid, rw e at l.constants_laid)
-
--- every number that the turn makes is small
-pub loading_sizes : {bytes : List ℕ} {kind w m : ℕ} {rows : List Equation} {starts₀ vars₀ constants₀ starts vars constants : List ℕ} {p t i k h : ℕ}
-    → Loading bytes kind w m rows starts₀ vars₀ constants₀ starts vars constants p t i → i < m → k ≡ count kind w (drop p bytes) → h ≡ count_bytes kind w
-    → (p + h + k * w + 8 ≤ length bytes) × (k ≤ k * w) × (t ≤ p) × (length bytes ≤ max_bytes)
-loading_sizes {bytes} {kind} {w} {m} {rows} {p = p} {t = t} {i = i} {k = k} {h = h} l less ek eh =
-    let room = loading_room l less in
-    let s : p + h + k * w + 8 ≡ p + row_bytes kind w (drop p bytes) = rw (ek, eh) (sized kind w p bytes) in
-    let g : k * 1 ≤ k * w = mul-le-mul (le_refl k) l.wide in
-    (omega (arith, room.0), omega arith, l.few, l.short)
