@@ -10,7 +10,7 @@ use Rattle.gf2.specs.Result.{Result, unsolvable, ok}
 use Rattle.lazy.specs.Lazy.{State, Build, more, ended, unit, after, answer_of}
 use Rattle.lazy.proofs.Turns.{after_end}
 use Rattle.answers.specs.Sizes.{max_variables, max_equations}
-use Rattle.answers.specs.Answers.TheVariants as answer
+use Rattle.answers.specs.Answers as answer
 use Rattle.lazy.specs.Cancelled.{unit_cancels, after_cancels}
 use Rattle.gf2.proofs.Tally.{Tally, tally_begin, tally_turn, tally_last}
 use Rattle.lazy_setup.specs.declared.Layout.{Layout}

@@ -1,6 +1,7 @@
 // One unit, and the run as a loop of units.
 ghost use Rattle.std.specs.Prelude.{◌≡◌, List, ◌≤◌};
 ghost use Rattle.answers.specs.Sizes.{max_equations};
+ghost use Rattle.answers.specs.Answers.{answer_of};
 ghost use Rattle.gf2.specs.Equation.{Equation};
 ghost use Rattle.lazy.specs.Lazy.{State, unit};
 ghost use Rattle.lazy.specs.Cancelled.{unit_cancels};
@@ -10,7 +11,7 @@ ghost use Rattle.lazy_units.specs.Running.{Ran, RanCount};
 
 use crate::clearing::clear_row;
 use crate::filling::finish;
-use answers::{Answer, Built};
+use answers::{Built, Refusal};
 use lazy_pops::{CountedStep, Step};
 use lazy_setup::{Layout, Stand};
 
@@ -49,7 +50,7 @@ pub fn run_units(
     solution: &mut [u64],
 ) -> Built
     requires { UnitReady n m layout stand numbers.old words.old solution.old × (m ≤ max_equations) }
-    ensures ran { Ran n m layout stand numbers.old words.old solution.old solution.new numbers.new result.answer }
+    ensures ran { Ran n m layout stand numbers.old words.old solution.old solution.new numbers.new (answer_of result.answer) }
     ensures ran_count { RanCount n m layout stand numbers.old words.old solution.old result.cancelled }
 {
     let mut at = stand;
@@ -62,13 +63,13 @@ pub fn run_units(
             Step::More(next) => at = next,
             Step::Solved => {
                 return Built {
-                    answer: Answer::Solved,
+                    answer: Ok(()),
                     cancelled,
                 };
             }
             Step::Unsolvable => {
                 return Built {
-                    answer: Answer::Unsolvable,
+                    answer: Err(Refusal::Unsolvable),
                     cancelled,
                 };
             }
