@@ -1,40 +1,39 @@
 -- The contract of `lazy_gaussian_elimination` determines its result and every lent cell: two results that meet it are equal.
-use mathlib.Core.Path.{◌≡◌}
-use mathlib.Core.List.{List}
-use Prim.Native.Nat.{ℕ}
+use Rattle.std.proofs.Common.{◌≡◌, ℕ, List}
 use contract.Lifetimes.{Lfts}
 use denote.Triple.Clauses.{AtExit}
 use borrow.Fn.Kinds.{Dens, ended_of}
-use Rattle.answers.specs.Calls.{Call}
 use Rattle.answers.specs.declared.refusal.Built.{Built}
 use Rattle.answers.proofs.Determined.{built_determined}
-use Rattle.system.specs.System.{equations}
+use Rattle.system.specs.declared.System.{System}
+use Rattle.system.specs.Lent.{equations_in}
 use Rattle.lazy.specs.Cancelled.{lazy_cancels}
-use Rattle.lazy_calls.specs.LazyCall.{lazy_call}
+use Rattle.lazy_calls.specs.LazyCall.{lazy_call_in}
 use Rattle.lazy_calls.proofs.lazy_gaussian_elimination.Kinds as kinds
 use Rattle.lazy_calls.proofs.lazy_gaussian_elimination.Reads as lazy_gaussian_elimination
 
-module _ (κs : Lfts 6) where
+module _ (κs : Lfts 5) where
   abbrev Arguments : Type 0
   Arguments = Dens κs kinds.ps
 
   -- the parameters at exit, and of these the slices that are lent mutably
   abbrev Exit : Type 0
-  Exit = AtExit (ended_of 6 kinds.ps kinds.r) κs
+  Exit = AtExit (ended_of 5 kinds.ps kinds.r) κs
 
   abbrev solution : Exit → List ℕ
-  solution e = e.1.1.1.1.1.0.now
+  solution e = e.1.0.now
 
   abbrev numbers : Exit → List ℕ
-  numbers e = e.1.1.1.1.1.1.0.now
+  numbers e = e.1.1.0.now
 
   abbrev words : Exit → List ℕ
-  words e = e.1.1.1.1.1.1.1.0.now
+  words e = e.1.1.1.0.now
 
-  abbrev call : Arguments → Call
-  call a = lazy_call a.0 a.1.0 a.1.1.0.now a.1.1.1.0.now a.1.1.1.1.0.now a.1.1.1.1.1.0.now a.1.1.1.1.1.1.0.now a.1.1.1.1.1.1.1.0.now
+  abbrev system : Arguments → System
+  system a = a.0.now
 
   -- `Post` is the contract: what it says of the arguments, the result and the parameters at exit
   pub lazy_determined : (args : Arguments) (r r' : Built) (exit exit' : Exit) → lazy_gaussian_elimination.Post κs args r exit → lazy_gaussian_elimination.Post κs args r' exit'
       → (r ≡ r') × (solution exit ≡ solution exit') × (numbers exit ≡ numbers exit') × (words exit ≡ words exit')
-  lazy_determined args r r' exit exit' p q = built_determined (call args) (lazy_cancels args.0 (equations args.1.0 args.1.1.0.now args.1.1.1.0.now args.1.1.1.1.0.now)) r r' p q
+  lazy_determined args r r' exit exit' p q =
+      built_determined (lazy_call_in (system args) args.1.0.now args.1.1.0.now args.1.1.1.0.now) (lazy_cancels (system args).n (equations_in (system args))) r r' p q

@@ -8,7 +8,7 @@ use native.Mathlib.Numerals.{add-one}
 use native.Mathlib.Omega.{arith}
 use lib.ListN.{length, get_or, set, drop, drop_of_length-le}
 use lib.Seq.{drop-cons}
-use Rattle.gf2.specs.Equation.{Equation, Each, Rising, lists, sum}
+use Rattle.gf2.specs.Equation.{Equation, Each, Rising, sum}
 use Rattle.gf2.specs.ByNumber.{row_of}
 use Rattle.gf2.specs.NumberLists.{keep}
 use Rattle.areas.proofs.Stretch.{get_or-stretch}

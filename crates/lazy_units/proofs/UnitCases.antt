@@ -3,7 +3,7 @@ use mathlib.Core.Path.{◌≡◌, refl, sym, ap, ◌∙◌}
 use mathlib.Core.Logic.{◌≢◌}
 use mathlib.Core.List.{List, [], ◌∷◌}
 use mathlib.Core.Bool.{Bool, true, false, ◌&&◌}
-use Prim.Native.Nat.{ℕ, zero, suc, ◌+◌, ◌-◌, ◌*◌, ◌≤◌, ◌<◌}
+use Prim.Native.Nat.{ℕ, zero, suc, ◌+◌, ◌*◌, ◌≤◌, ◌<◌}
 use native.Mathlib.Omega.{arith}
 use lib.ListN.{length, get_or}
 use lib.Dec.{eqb, ltb}
@@ -15,7 +15,7 @@ use Rattle.gf2.proofs.Members.{or_r}
 use Rattle.gf2.proofs.Tests.{eqb_same, ltb_yes, ltb_not}
 use Rattle.answers.specs.Sizes.{max_variables}
 use Rattle.lazy.specs.Invariant.{Lent, Inv, solves}
-use Rattle.lazy.specs.Lazy.{State, Solved, pop, dense_row, last_unit, Build, more, ended, go_on, unit}
+use Rattle.lazy.specs.Lazy.{State, Solved, pop, dense_row, last_unit, Build, ended, go_on, unit}
 use Rattle.lazy.proofs.Pops as laws
 use Rattle.lazy.proofs.Room.{row_rising, dense_rising}
 use Rattle.sparse_rules.specs.Cancelled.{outer_row_cancels}

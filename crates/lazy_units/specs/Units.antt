@@ -4,7 +4,7 @@ use Rattle.gf2.specs.Equation.{Equation, Each, Rising}
 use Rattle.gf2.specs.Result.{Result, unsolvable, ok}
 use Rattle.answers.specs.Sizes.{max_variables}
 use Rattle.lazy.specs.Invariant.{Lent, Inv}
-use Rattle.lazy.specs.Lazy.{State, Solved, Build, more, ended}
+use Rattle.lazy.specs.Lazy.{State, Build, more, ended}
 use Rattle.lazy_setup.specs.declared.Layout.{Layout}
 use Rattle.lazy_setup.specs.declared.Stand.{Stand}
 use Rattle.lazy_setup.specs.Area.{words_of}

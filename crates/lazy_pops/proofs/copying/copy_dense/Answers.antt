@@ -1,4 +1,4 @@
-use Rattle.std.proofs.Common.{rules, arith, length-set}
+use Rattle.std.proofs.Common.{arith}
 use Rattle.lazy_pops.proofs.DenseWriting.{copy_cells, copy_done}
 use Rattle.lazy_pops.proofs.copying.copy_dense.Goals as goal
 
