@@ -7,14 +7,13 @@ use native.Mathlib.Nat.{sub-zero}
 use native.Mathlib.Numerals.{add-one}
 use lib.ListN.{length, get_or, set, take, drop, replicate, length-replicate}
 use lib.Seq.{length-take-le, drop_at, take_all, take-suc, set_at, get_or_at}
-use Rattle.areas.specs.Stretch.{stretch, cleared}
-use Rattle.gf2.specs.Equation.{Equation, eqn, Rising}
+use Rattle.areas.specs.Stretch.{cleared}
+use Rattle.gf2.specs.Equation.{Equation, eqn}
 use Rattle.answers.specs.Sizes.{row_numbers, row_words}
 use Rattle.rows.specs.Picture.{Drawn, Held, Became, rows_of, row_at}
 use Rattle.rows.proofs.Holding.{rows_are, held, carried}
 use Rattle.rows.proofs.Loading.{blank_drawn}
 use Rattle.system.specs.System.{equation_at, equations}
-use Rattle.system.specs.Fits.{Fits}
 use Rattle.system.proofs.Reading.{equations_at}
 
 -- the first i equations, and then rows without variables
@@ -85,16 +84,12 @@ module _ {n m : ℕ} {es : List Equation} {rest rest' numbers words : List ℕ} 
           many = s.many;
         }
 
--- equation i, as the code reads it
-pub equation_read : (m : ℕ) (starts vars constants : List ℕ) (i : ℕ) → i < m
-    → eqn (take (get_or starts (i + 1) 0 - get_or starts i 0) (drop (get_or starts i 0) vars)) (get_or constants i 0) ≡ get_or (equations m starts vars constants) i (eqn [] 0)
-unfolding equation_at stretch
-equation_read m starts vars constants i h = sym (equations_at starts vars constants m i (eqn [] 0) h)
-
-pub equation_rising : {n m : ℕ} {starts vars constants : List ℕ} → Fits n m starts vars constants → (i : ℕ) → i < m
-    → Rising 0 n (take (get_or starts (i + 1) 0 - get_or starts i 0) (drop (get_or starts i 0) vars))
-unfolding equation_at stretch
-equation_rising f i h = f.rising i h
+-- equation i, as it is lent
+pub equation_lent : (m : ℕ) (starts vars constants : List ℕ) (i : ℕ) (vs : List ℕ) → i < m → vs ≡ (equation_at starts vars constants i).vars
+    → eqn vs (get_or constants i 0) ≡ get_or (equations m starts vars constants) i (eqn [] 0)
+unfolding equation_at
+equation_lent m starts vars constants i vs h e =
+    ap (λ (v : List ℕ). eqn v (get_or constants i 0)) e ∙ sym (equations_at starts vars constants m i (eqn [] 0) h)
 
 -- past the room nothing was written, not even where it was zeroed
 pub loaded_all : {n m : ℕ} {es : List Equation} (numbers₀ words₀ : List ℕ) {rest rest' numbers words : List ℕ} → rest ≡ cleared (row_numbers n m) numbers₀ → rest' ≡ cleared (row_words m) words₀

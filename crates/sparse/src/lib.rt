@@ -2,45 +2,47 @@
 #![tactic(auto)]
 
 ghost use Rattle.std.specs.Prelude.{◌≡◌};
+ghost use Rattle.answers.specs.Answers.{answer_of, rules_of};
 ghost use Rattle.answers.specs.Numbers.{number_of, place_of};
 ghost use Rattle.answers.specs.Reported.{reported};
 ghost use Rattle.answers.specs.Told.{Tells};
-ghost use Rattle.system.specs.System.{equations};
+ghost use Rattle.system.specs.Lent.{equations_in};
 ghost use Rattle.sparse_rules.specs.SparseCall.{sparse_call};
 ghost use Rattle.sparse_rules.specs.Cancelled.{sparse_cancels};
+ghost use Rattle.sparse.specs.Gate.{gate_in};
 
-use answers::{Answer, Built, Rules};
+use answers::{Built, Refusal, lengths_kept, sparse_numbers};
+use system::System;
 
 mod load;
 mod solve;
 
-// Solves a sparse system of `m` equations in `n` variables. Tells how many variables cancelled in its sums.
+// What is refused before the run: the system's rules, then the lengths beside it.
+fn admitted(
+    system: &System,
+    solution: &[u64],
+    numbers: &[u32],
+    words: &[u64],
+) -> Result<(), Refusal>
+    ensures { rules_of result ≡ gate_in system.now solution.now numbers.now words.now }
+{
+    system.rules()?;
+    let room = sparse_numbers(system.n, system.m);
+    lengths_kept(system.n, solution, numbers, room, words, system.m)
+}
+
+// Solves a sparse system. Tells how many variables cancelled in its sums.
 pub fn gaussian_elimination(
-    n: usize,
-    m: usize,
-    starts: &[u32],
-    vars: &[u32],
-    constants: &[u64],
+    system: &System,
     solution: &mut [u64],
     numbers: &mut [u32],
     words: &mut [u64],
 ) -> Built
-    ensures tells { Tells (sparse_call n m starts.now vars.now constants.now solution.old numbers.old words.old) (number_of result.answer) (place_of result.answer) solution.new numbers.new words.new }
-    ensures cancelled_value { result.cancelled ≡ reported (sparse_call n m starts.now vars.now constants.now solution.old numbers.old words.old).answer (sparse_cancels (equations m starts.now vars.now constants.now)) }
+    ensures tells { Tells (sparse_call system.now.n system.now.m system.now.starts.now system.now.vars.now system.now.constants.now solution.old numbers.old words.old) (number_of (answer_of result.answer)) (place_of (answer_of result.answer)) solution.new numbers.new words.new }
+    ensures cancelled_value { result.cancelled ≡ reported (sparse_call system.now.n system.now.m system.now.starts.now system.now.vars.now system.now.constants.now solution.old numbers.old words.old).answer (sparse_cancels (equations_in system.now)) }
 {
-    match system::rules(n, m, starts, vars, constants) {
-        Rules::Broken(answer) => Built::refused(answer),
-        Rules::Kept => {
-            if solution.len() != n {
-                return Built::refused(Answer::WrongSolution);
-            }
-            if numbers.len() < answers::sparse_numbers(n, m) {
-                return Built::refused(Answer::ShortArea);
-            }
-            if words.len() < m {
-                return Built::refused(Answer::ShortArea);
-            }
-            solve::run(n, m, starts, vars, constants, solution, numbers, words)
-        }
+    match admitted(system, solution, numbers, words) {
+        Err(refusal) => Built::refused(refusal),
+        Ok(()) => solve::run(system, solution, numbers, words),
     }
 }

@@ -1,16 +1,13 @@
--- The call's answer on each way through its tests.
-use mathlib.Core.Path.{◌≡◌, refl}
-use mathlib.Core.Logic.{◌≢◌}
+-- The call's answer on each way through its tests: refused before the run, or the run.
+use mathlib.Core.Path.{◌≡◌, refl, sym, ap, ◌∙◌}
 use mathlib.Core.List.{List}
-use Prim.Native.Nat.{ℕ, ◌≤◌, ◌<◌}
-use lib.ListN.{length}
-use borrow.Author.Tests.{eq-eqb, ne_eqb, le-leb, lt-leb}
-use Rattle.answers.specs.Calls.{Call, ran}
+use Prim.Native.Nat.{ℕ, ◌≤◌}
+use Rattle.answers.specs.Calls.{Call, refused, ran, lengths_rules, both_rules}
 use Rattle.answers.specs.Sizes.{sparse_numbers, sparse_words}
-use Rattle.answers.specs.Answers.{Answer}
-use Rattle.answers.specs.Answers.{WrongSolution, ShortArea}
-use Rattle.answers.specs.Answers.{Kept, Broken}
+use Rattle.answers.specs.Answers.{Answer, Rules, Kept, Broken}
 use Rattle.answers.proofs.Told.{Says}
+use Rattle.answers.proofs.Calls.{call_ran}
+use Rattle.answers.proofs.Gate.{gate_kept, gate_broken}
 use Rattle.system.specs.System.{system_rules, equations}
 use Rattle.sparse_rules.specs.Eliminate.{gaussian_elimination}
 use Rattle.sparse_rules.specs.SparseCall.{sparse_call}
@@ -19,30 +16,22 @@ module _ (n m : ℕ) (starts vars constants solution numbers words : List ℕ) w
   abbrev call : Call
   call = sparse_call n m starts vars constants solution numbers words
 
-  pub call_broken : (answer : Answer) → system_rules n m starts vars constants ≡ Broken answer → Says call answer solution numbers words
+  -- what is tried before the run: the system's rules, then the lengths beside it
+  abbrev pub sparse_gate : Rules
+  sparse_gate = both_rules (system_rules n m starts vars constants) (lengths_rules n (sparse_numbers n m) (sparse_words m) solution numbers words)
+
+  pub call_refused : (answer : Answer) → sparse_gate ≡ Broken answer → Says call answer solution numbers words
   unfolding sparse_call
-  call_broken answer e = simp e (refl, (refl, (refl, refl)))
+  call_refused answer e =
+      rw (gate_broken n (sparse_numbers n m) (sparse_words m) (gaussian_elimination n (equations m starts vars constants)) solution numbers words (system_rules n m starts vars constants) answer e)
+      (refl, (refl, (refl, refl)))
 
-  module _ (kept : system_rules n m starts vars constants ≡ Kept) where
-    pub call_wrong : length solution ≢ n → Says call WrongSolution solution numbers words
-    unfolding sparse_call
-    call_wrong ne = simp (kept, ne_eqb (length solution) n ne) (refl, (refl, (refl, refl)))
-
-    module _ (long : length solution ≡ n) where
-      pub call_short_numbers : length numbers < sparse_numbers n m → Says call ShortArea solution numbers words
-      unfolding sparse_call
-      call_short_numbers h = simp (kept, eq-eqb (length solution) n long, lt-leb (sparse_numbers n m) (length numbers) h) (refl, (refl, (refl, refl)))
-
-      module _ (room : sparse_numbers n m ≤ length numbers) where
-        pub call_short_words : length words < m → Says call ShortArea solution numbers words
-        unfolding sparse_call
-        call_short_words h =
-            simp (kept, eq-eqb (length solution) n long, le-leb (sparse_numbers n m) (length numbers) room, lt-leb m (length words) h) (refl, (refl, (refl, refl)))
-
-        -- the run that is not refused
-        pub call_run : m ≤ length words → (answer : Answer) (solution' numbers' words' : List ℕ)
-            → Says (ran (sparse_numbers n m) (sparse_words m) (gaussian_elimination n (equations m starts vars constants)) solution numbers words) answer solution' numbers' words'
-            → Says call answer solution' numbers' words'
-        unfolding sparse_call
-        call_run h answer solution' numbers' words' e =
-            simp (kept, eq-eqb (length solution) n long, le-leb (sparse_numbers n m) (length numbers) room, le-leb m (length words) h) e
+  -- the run that is not refused
+  pub call_run : sparse_gate ≡ Kept → (answer : Answer) (solution' numbers' words' : List ℕ)
+      → Says (ran (sparse_numbers n m) (sparse_words m) (gaussian_elimination n (equations m starts vars constants)) solution numbers words) answer solution' numbers' words'
+      → Says call answer solution' numbers' words'
+  unfolding sparse_call
+  call_run k answer solution' numbers' words' e =
+      let run = gaussian_elimination n (equations m starts vars constants) in
+      let a = gate_kept n (sparse_numbers n m) (sparse_words m) run solution numbers words (system_rules n m starts vars constants) k in
+      rw (call_ran n (sparse_numbers n m) (sparse_words m) run solution numbers words (system_rules n m starts vars constants) a) e
