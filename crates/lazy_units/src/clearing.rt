@@ -2,6 +2,7 @@
 ghost use Rattle.std.specs.Prelude.{◌≡◌, List, take, drop};
 ghost use Rattle.rows.specs.Picture.{rows_of};
 ghost use Rattle.sparse_rules.specs.Cancelled.{outer_row_cancels};
+ghost use Rattle.sparse_rows.specs.Reduction.{reduction_of};
 ghost use Rattle.gf2.specs.Equation.{Equation};
 ghost use Rattle.lazy.specs.Lazy.{State, dense_row};
 ghost use Rattle.lazy_units.specs.Units.{ClearAt, ClearReady, Going};
@@ -9,7 +10,7 @@ ghost use Rattle.lazy_units.specs.Clearing.{ClearFits, Cleared};
 
 use lazy_pops::{CountedStep, Step};
 use lazy_setup::{Layout, Stand};
-use sparse_rows::echelon::{Counted, Reduction};
+use sparse_rows::echelon::Counted;
 
 // Row i of the d rows that stand from `dense` on, and from word m on, meets each later one.
 fn clear_dense(
@@ -22,7 +23,7 @@ fn clear_dense(
     i: usize,
 ) -> Counted
     requires { ClearFits dense n m d i numbers.old words.old }
-    ensures cleared { Cleared dense n m d i numbers.old words.old numbers.new words.new result.end }
+    ensures cleared { Cleared dense n m d i numbers.old words.old numbers.new words.new (reduction_of result.end) }
     ensures cancelled_value { result.cancelled ≡ outer_row_cancels i (take d (rows_of n m (drop dense numbers.old) (drop m words.old))) }
 {
     sparse_rows::echelon::outer_row(&mut numbers[dense..], &mut words[m..], n, m, d, i)
@@ -43,13 +44,12 @@ pub fn clear_row(
 {
     let row = clear_dense(numbers, words, layout.dense, n, m, stand.dense, stand.done);
     let cancelled = row.cancelled;
-    let end = row.end;
-    match end {
-        Reduction::Unsolvable => CountedStep {
+    match row.end {
+        Err(_) => CountedStep {
             step: Step::Unsolvable,
             cancelled,
         },
-        Reduction::Reduced => {
+        Ok(()) => {
             let mut next = stand;
             next.done = stand.done + 1;
             CountedStep {

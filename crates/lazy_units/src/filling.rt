@@ -7,7 +7,6 @@ ghost use Rattle.lazy_units.specs.Ending.{MeetFits, met, FillAt, FillReady, Unit
 
 use lazy_pops::Step;
 use lazy_setup::{Layout, Stand};
-use sparse_rows::echelon::Reduction;
 
 // The variable v gets the value that meets equation e.
 fn fill_one(
@@ -73,8 +72,8 @@ pub fn finish(
         stand.dense,
         solution,
     ) {
-        Reduction::Unsolvable => Step::Unsolvable,
-        Reduction::Reduced => {
+        Err(_) => Step::Unsolvable,
+        Ok(()) => {
             fill_solved(
                 numbers,
                 words,
