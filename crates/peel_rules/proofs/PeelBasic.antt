@@ -12,12 +12,6 @@ use Rattle.gf2.specs.Equation.{Each}
 use Rattle.peel_rules.specs.Edges.{touches, bump, degree, edge_at, without, Side, side0, side1, side2, side_of, pivot, first, second}
 use Rattle.peeling.specs.declared.numbers.Edge.{Edge}
 
-pub some_inj : {d e : Edge} → ◌≡◌ {A = Option Edge} (some d) (some e) → d ≡ e
-some_inj h = cc
-
-pub none≢some : {e : Edge} → ◌≡◌ {A = Option Edge} none (some e) → ⊥
-none≢some h = let z : ◌≡◌ {A = ℕ} 0 1 = cc in omega arith
-
 pub bump_comm : (s t : Bool) (k : ℕ) → bump s (bump t k) ≡ bump t (bump s k)
 bump_comm true true k = refl
 bump_comm true false k = refl
@@ -69,22 +63,22 @@ touches_second side2 e = touches_b e
 -- ---- the edge at a vertex
 pub at_touches : (v : ℕ) (es : List Edge) {e : Edge} → edge_at v es ≡ some e → touches v e ≡ true
 unfolding edge_at
-at_touches v [] h = absurd (none≢some h)
+at_touches v [] h = cc
 at_touches v (d ∷ es) {e} h = go (touches v d) refl (at_touches v es) h
   where
     go : (t : Bool) → touches v d ≡ t → (edge_at v es ≡ some e → touches v e ≡ true) → cond t (some d) (edge_at v es) ≡ some e → touches v e ≡ true
-    go true q ih g = rw (← some_inj g) q
+    go true q ih g = let s : d ≡ e = cc in rw (← s) q
     go false q ih g = ih g
 
 -- the degrees before the removal, by the degrees after it
 pub degree_split : (v : ℕ) (es : List Edge) {e : Edge} → edge_at v es ≡ some e → (w : ℕ) → degree w es ≡ bump (touches w e) (degree w (without v es))
 unfolding edge_at without degree
-degree_split v [] h w = absurd (none≢some h)
+degree_split v [] h w = cc
 degree_split v (d ∷ es) {e} h w = go (touches v d) (λ g. degree_split v es g w) h
   where
     go : (t : Bool) → (edge_at v es ≡ some e → degree w es ≡ bump (touches w e) (degree w (without v es)))
         → cond t (some d) (edge_at v es) ≡ some e → bump (touches w d) (degree w es) ≡ bump (touches w e) (degree w (cond t es (d ∷ without v es)))
-    go true ih g = rw (some_inj g)
+    go true ih g = let s : d ≡ e = cc in rw s
     go false ih g = rw (ih g) (bump_comm (touches w d) (touches w e) (degree w (without v es)))
 
 pub at_none : (v : ℕ) (es : List Edge) → edge_at v es ≡ none → degree v es ≡ 0
@@ -93,18 +87,18 @@ at_none v [] h = refl
 at_none v (d ∷ es) h = go (touches v d) (at_none v es) h
   where
     go : (t : Bool) → (edge_at v es ≡ none → degree v es ≡ 0) → cond t (some d) (edge_at v es) ≡ none → bump t (degree v es) ≡ 0
-    go true ih g = absurd (none≢some (sym g))
+    go true ih g = cc
     go false ih g = ih g
 
 -- ---- a statement about each edge
 module _ (Q : Edge → Type 0) where
   pub all_at : (v : ℕ) (es : List Edge) {e : Edge} → edge_at v es ≡ some e → Each Q es → Q e
   unfolding edge_at
-  all_at v [] h q = absurd (none≢some h)
+  all_at v [] h q = absurd cc
   all_at v (d ∷ es) {e} h q = go (touches v d) (all_at v es) h
     where
       go : (t : Bool) → (edge_at v es ≡ some e → Each Q es → Q e) → cond t (some d) (edge_at v es) ≡ some e → Q e
-      go true ih g = rw (← some_inj g) q.0
+      go true ih g = let s : d ≡ e = cc in rw (← s) q.0
       go false ih g = ih g q.1
 
   pub all_without : (v : ℕ) (es : List Edge) → Each Q es → Each Q (without v es)
@@ -123,7 +117,7 @@ module _ (Q : Edge → Type 0) where
     where
       go : (t : Bool) → (edge_at v es ≡ some e → Q e → Each Q (without v es) → Each Q es)
           → cond t (some d) (edge_at v es) ≡ some e → Each Q (cond t es (d ∷ without v es)) → Q d × Each Q es
-      go true ih g r = (rw (some_inj g) q, r)
+      go true ih g r = (let s : d ≡ e = cc in rw s q, r)
       go false ih g r = (r.0, ih g q r.1)
 
 -- ---- the run: what a step keeps, by its two cases

@@ -11,7 +11,7 @@ use lib.ListN.{length, replicate}
 use lib.Dec.{eqb}
 use borrow.Author.Tests.{eqb-true, eqb-false, eq-eqb}
 use Rattle.peel_rules.specs.Peel.{Peeled, State, push, popped, ones, start, peel, fill, solved, stuck, verdict, answer}
-use Rattle.peel_rules.proofs.PeelBasic.{none≢some, bump_le, pivot_of_lem, at_touches, degree_split, at_none, step-inv, run-inv}
+use Rattle.peel_rules.proofs.PeelBasic.{bump_le, pivot_of_lem, at_touches, degree_split, at_none, step-inv, run-inv}
 use Rattle.peel_rules.proofs.PeelSolved.{Inv, falls_one, inv_skip, inv_takes, start_inv}
 use Rattle.peel_rules.proofs.PeelEmpty.{peel_empties}
 use Rattle.gf2.specs.Equation.{Each}
@@ -218,7 +218,7 @@ within_every (b ∷ bs) (e ∷ es) h = (λ _. refl, within_every bs es (omega ar
 -- ---- what the run keeps, beside `Inv`
 pub without_length : (v : ℕ) (es : List Edge) {e : Edge} → edge_at v es ≡ some e → length es ≡ suc (length (without v es))
 unfolding edge_at without
-without_length v [] h = absurd (none≢some h)
+without_length v [] h = cc
 without_length v (d ∷ es) {e} h = go (touches v d) (without_length v es) h
   where
     go : (t : Bool) → (edge_at v es ≡ some e → length es ≡ suc (length (without v es))) → cond t (some d) (edge_at v es) ≡ some e

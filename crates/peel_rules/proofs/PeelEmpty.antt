@@ -12,6 +12,7 @@ use borrow.Author.Tests.{eqb-true, eqb-false, eq-eqb, ne_eqb}
 use Rattle.peel_rules.specs.Peel.{Peeled, State, push, popped, pop, step, run, ones, start, peel}
 use Rattle.peel_rules.proofs.PeelBasic.{touches_first, touches_second, all_at}
 use Rattle.peel_rules.proofs.PeelSolved.{Inv, falls, falls_one, inv_step, start_inv}
+use Rattle.std.proofs.lemmas.List.{nil_from_length}
 use Rattle.gf2.specs.Equation.{Each}
 use Rattle.peel_rules.specs.Edges.{Valid, touches, degree, edge_at, without, Side, side0, side1, side2, side_of, first, second}
 use Rattle.peeling.specs.declared.numbers.Edge.{Edge}
@@ -186,13 +187,9 @@ unfolding run step pop
 run_idle zero es ps = refl
 run_idle (suc k) es ps = run_idle k es ps
 
-length_zero : (st : List ℕ) → length st ≤ 0 → st ≡ []
-length_zero [] h = refl
-length_zero (v ∷ st) h = absurd (omega arith)
-
 run_empties : (n k : ℕ) (s : State) → Inv n s → weight n s.left s.stack ≤ k → (run k s).stack ≡ []
 unfolding run step pop popped weight
-run_empties n zero s i h = length_zero s.stack (omega arith)
+run_empties n zero s i h = nil_from_length s.stack (omega arith)
 run_empties n (suc k) s i h = go s.left s.stack s.peeled i (inv_step n s i) h (run_empties n k)
   where
     pick : (es : List Edge) (v : ℕ) (st : List ℕ) (ps : List Peeled) (o : Option Edge) → edge_at v es ≡ o

@@ -14,7 +14,7 @@ use Rattle.peel_rules.specs.Edges.{Valid, Side, side0, side1, side2, pivot}
 use Rattle.peel_rules.specs.Peel.{Peeled}
 use Rattle.peel_rules.specs.Machine.{no_edge, side_no, side_from, Machine, mpopped, mpop, mstep, take_off, High, hpopped, hpop, hstep}
 use Rattle.peel_rules.proofs.PeelSolved.{Good}
-use Rattle.peel_rules.proofs.PeelRefines.{Kept, pivot_of}
+use Rattle.peel_rules.proofs.PeelRefines.{Kept, pivot_of, side_smaller}
 use Rattle.peel_rules.proofs.PeelHigh.{rows_of}
 
 -- edge number i and side t can be filled
@@ -32,12 +32,6 @@ in_table T n i e q va = go (ltb i (length T)) refl
     go false k =
         let z : e ≡ no_edge = sym q ∙ get_or-eq_default T no_edge {n = i} (ltb-false i (length T) k) in
         absurd (va.a≢b (ap (λ (d : Edge). d.a.0) z ∙ sym (ap (λ (d : Edge). d.b.0) z)))
-
-side_three : (s : Side) → side_no s < 3
-unfolding side_no
-side_three side0 = omega arith
-side_three side1 = omega arith
-side_three side2 = omega arith
 
 pivot_below : {n : ℕ} {e : Edge} → Valid n e → (s : Side) → pivot s e < n
 unfolding pivot
@@ -59,7 +53,7 @@ kept_fillable T n g left es (p ∷ ps) k h = (
     at = pivot_below h.0 p.side;
     edge = record {
       number = in_table T n (get_or g.edges (pivot_of p) 0) p.edge k.0.edge h.0;
-      side_3 = omega (arith, k.0.byte, side_three p.side);
+      side_3 = omega (arith, k.0.byte, side_smaller p.side);
       valid = rw k.0.edge h.0;
     };
   },
@@ -105,6 +99,6 @@ rows_fillable T n es (p ∷ ps) (i ∷ is) (t ∷ ts) r s c h =
     let q : record { edge = get_or T i no_edge; side = side_from t } ≡ p = cc in
     let e : get_or T i no_edge ≡ p.edge = ap (λ (z : Peeled). z.edge) q in
     let k : t ≡ side_no p.side = cc in (
-      record { number = in_table T n i p.edge e h.0; side_3 = omega (arith, side_three p.side); valid = rw e h.0 },
+      record { number = in_table T n i p.edge e h.0; side_3 = omega (arith, side_smaller p.side); valid = rw e h.0 },
       rows_fillable T n (p.edge ∷ es) ps is ts (cc) (cc) (omega arith) h.2,
     )

@@ -30,17 +30,14 @@ side_back side0 = refl
 side_back side1 = refl
 side_back side2 = refl
 
-pub side_small : (s : Side) → side_no s < 4
-unfolding side_no
-side_small side0 = omega arith
-side_small side1 = omega arith
-side_small side2 = omega arith
-
-side_smaller : (s : Side) → side_no s < 3
+pub side_smaller : (s : Side) → side_no s < 3
 unfolding side_no
 side_smaller side0 = omega arith
 side_smaller side1 = omega arith
 side_smaller side2 = omega arith
+
+pub side_small : (s : Side) → side_no s < 4
+side_small s = omega (arith, side_smaller s)
 
 pub side_a : {n : ℕ} {e : Edge} → Valid n e → side_of e.a.0 e ≡ side0
 unfolding side_of

@@ -11,7 +11,7 @@ use lib.Seq.{get_or-set_same, get_or-set_other}
 use lib.Bits.{bit_xor}
 use lib.Dec.{eqb}
 use borrow.Author.Tests.{eqb-true}
-use Rattle.peel_rules.specs.Peel.{Peeled, State, push, popped, step, ones, start, peel, edge_xor, Met, fill_one, fill, solved, stuck, verdict, answer}
+use Rattle.peel_rules.specs.Peel.{Peeled, State, push, popped, step, ones, start, peel, edge_xor, Met, fill_one, fill, solved, verdict, answer}
 use Rattle.peel_rules.proofs.PeelBasic.{bump_le, pivot_of_lem, touches_a, touches_b, touches_c, touches_first, touches_second, at_touches, degree_split, all_at, all_without, all_back, step-inv, run-inv}
 use Rattle.gf2.proofs.XorLaws.{xor_laws}
 use Rattle.gf2.specs.Equation.{Each}
@@ -186,20 +186,14 @@ pub record Solution (n : ℕ) (es : List Edge) (x : List ℕ) : Type 0 where
   pub size : length x ≡ n
   pub meets : Each (Met x) es
 
-solved_inj : {x y : List ℕ} → solved x ≡ solved y → x ≡ y
-solved_inj h = cc
-
-stuck≢solved : {k : ℕ} {x : List ℕ} → stuck k ≡ solved x → ⊥
-stuck≢solved h = let z : ◌≡◌ {A = ℕ} 0 1 = cc in omega arith
-
 -- what a solved answer is
 pub solved_is : (n : ℕ) (es : List Edge) {x : List ℕ} → answer n es ≡ solved x → ((peel n es).left ≡ []) × (x ≡ fill (peel n es).peeled (replicate n 0))
 unfolding answer verdict
 solved_is n es {x} h = go (peel n es).left refl h
   where
     go : (l : List Edge) → (peel n es).left ≡ l → verdict n l (peel n es).peeled ≡ solved x → ((peel n es).left ≡ []) × (x ≡ fill (peel n es).peeled (replicate n 0))
-    go [] q g = (q, sym (solved_inj g))
-    go (e ∷ l) q g = absurd (stuck≢solved g)
+    go [] q g = (q, cc)
+    go (e ∷ l) q g = absurd cc
 
 pub answer_solves : (n : ℕ) (es : List Edge) (x : List ℕ) → Each (Valid n) es → answer n es ≡ solved x → Solution n es x
 answer_solves n es x v h =

@@ -1,13 +1,12 @@
 -- What a peeler's answer is, in the form that a reader cites.
 use mathlib.Core.Path.{◌≡◌, refl, sym, ap, ◌∙◌}
 use mathlib.Core.List.{List, [], ◌∷◌}
-use mathlib.Core.Bool.{Bool, true, false, cond, not, ◌&&◌, true≢false}
+use mathlib.Core.Bool.{Bool, true, false, cond}
 use mathlib.Core.Logic.{◌≢◌, ◌↔◌}
 use Prim.Native.Nat.{ℕ, suc, ◌+◌, ◌-◌, ◌^◌, ◌≤◌, ◌<◌}
 use native.Mathlib.Omega.{arith}
 use lib.ListN.{length, get_or, replicate}
-use lib.Dec.{ltb, eqb}
-use borrow.Author.Tests.{ltb-true, lt-ltb, eqb-false, ne_eqb, le-leb}
+use borrow.Author.Tests.{le-leb}
 use Rattle.gf2.specs.Equation.{Each}
 use Rattle.gf2.proofs.Each.{each_at, each_from}
 use Rattle.answers.specs.Sizes.{max_variables}
@@ -18,6 +17,7 @@ use Rattle.peel_rules.specs.Peel.{Met, edge_xor, fill, peel, solved, stuck, answ
 use Rattle.peel_rules.specs.Core.{pick, Core}
 use Rattle.peel_rules.specs.Ours.{Closed, keep}
 use Rattle.peel_rules.specs.Calls.{lookup_call}
+use Rattle.std.proofs.lemmas.Bool.Decides.{nat_tests}
 use Rattle.peel_rules.proofs.PeelSolved.{answer_solves}
 use Rattle.peel_rules.proofs.PeelCore.{Ends, peel_ends, core_unique, answer_solved, answer_stuck}
 use Rattle.peel_rules.proofs.PeelIsolated.{isolated}
@@ -26,36 +26,17 @@ use Rattle.peel_rules.proofs.PeelWidth.{answer_narrow}
 -- ---- the edges' rule as a test
 
 valid_test : (n : ℕ) (e : Edge) → is_valid n e ≡ true → Valid n e
-valid_test n e h =
-    go (ltb e.a.0 n) refl (ltb e.b.0 n) refl (ltb e.c.0 n) refl (eqb e.a.0 e.b.0) refl (eqb e.a.0 e.c.0) refl (eqb e.b.0 e.c.0) refl h
-  where
-    go : (p : Bool) → ltb e.a.0 n ≡ p → (q : Bool) → ltb e.b.0 n ≡ q → (r : Bool) → ltb e.c.0 n ≡ r
-        → (s : Bool) → eqb e.a.0 e.b.0 ≡ s → (t : Bool) → eqb e.a.0 e.c.0 ≡ t → (u : Bool) → eqb e.b.0 e.c.0 ≡ u
-        → (p && (q && r)) && (not s && (not t && not u)) ≡ true → Valid n e
-    go true hp true hq true hr false hs false ht false hu k = record {
-      a< = ltb-true e.a.0 n hp;
-      b< = ltb-true e.b.0 n hq;
-      c< = ltb-true e.c.0 n hr;
-      a≢b = eqb-false e.a.0 e.b.0 hs;
-      a≢c = eqb-false e.a.0 e.c.0 ht;
-      b≢c = eqb-false e.b.0 e.c.0 hu;
-    }
-    go true hp true hq true hr true hs t ht u hu k = absurd (true≢false (sym k))
-    go true hp true hq true hr false hs true ht u hu k = absurd (true≢false (sym k))
-    go true hp true hq true hr false hs false ht true hu k = absurd (true≢false (sym k))
-    go true hp true hq false hr s hs t ht u hu k = absurd (true≢false (sym k))
-    go true hp false hq r hr s hs t ht u hu k = absurd (true≢false (sym k))
-    go false hp q hq r hr s hs t ht u hu k = absurd (true≢false (sym k))
+valid_test n e h = record {
+  a< = grind (arith, nat_tests);
+  b< = grind (arith, nat_tests);
+  c< = grind (arith, nat_tests);
+  a≢b = grind (arith, nat_tests);
+  a≢c = grind (arith, nat_tests);
+  b≢c = grind (arith, nat_tests);
+}
 
 pub test_valid : (n : ℕ) (e : Edge) → Valid n e → is_valid n e ≡ true
-test_valid n e v = rw (
-  lt-ltb e.a.0 n v.a<,
-  lt-ltb e.b.0 n v.b<,
-  lt-ltb e.c.0 n v.c<,
-  ne_eqb e.a.0 e.b.0 v.a≢b,
-  ne_eqb e.a.0 e.c.0 v.a≢c,
-  ne_eqb e.b.0 e.c.0 v.b≢c,
-)
+test_valid n e v = grind (arith, nat_tests)
 
 -- no bad edge: all are valid
 pub all_valid : (n : ℕ) (es : List Edge) → length es ≤ bad_edge n es → Each (Valid n) es

@@ -6,7 +6,7 @@ use mathlib.Core.Option.{Option, none, some}
 use Prim.Native.Nat.{ℕ, ◌^◌, ◌<◌}
 use native.Mathlib.Omega.{arith}
 use lib.Bits.{bit_xor, xor_comm, xor_lt, xor_zero_r}
-use Rattle.peel_rules.proofs.PeelBasic.{some_inj, none≢some, bump_comm}
+use Rattle.peel_rules.proofs.PeelBasic.{bump_comm}
 use Rattle.gf2.proofs.XorLaws.{xor_assoc, xor_laws}
 use Rattle.peel_rules.specs.Edges.{touches, bump, degree, edge_at, without}
 use Rattle.peeling.specs.declared.numbers.Edge.{Edge}
@@ -40,19 +40,13 @@ edges_without v (q ∷ ns) = go (touches v q.edge) (edges_without v ns)
 -- an edge found has a number
 pub first_edge : (v : ℕ) (ns : List Numbered) (e : Edge) → edge_at v (edges_n ns) ≡ some e → (q : Numbered) × (first_n v ns ≡ some q) × (q.edge ≡ e)
 unfolding edges_n first_n edge_at
-first_edge v [] e h = absurd (none≢some h)
+first_edge v [] e h = absurd cc
 first_edge v (r ∷ ns) e h = go (touches v r.edge) (first_edge v ns e) h
   where
     go : (t : Bool) → (edge_at v (edges_n ns) ≡ some e → (q : Numbered) × (first_n v ns ≡ some q) × (q.edge ≡ e))
         → cond t (some r.edge) (edge_at v (edges_n ns)) ≡ some e → (q : Numbered) × (cond t (some r) (first_n v ns) ≡ some q) × (q.edge ≡ e)
-    go true ih g = (r, refl, some_inj g)
+    go true ih g = (r, refl, cc)
     go false ih g = ih g
-
-some_inj_n : {d e : Numbered} → ◌≡◌ {A = Option Numbered} (some d) (some e) → d ≡ e
-some_inj_n h = cc
-
-none≢some_n : {e : Numbered} → ◌≡◌ {A = Option Numbered} none (some e) → ⊥
-none≢some_n h = let z : ◌≡◌ {A = ℕ} 0 1 = cc in omega arith
 
 -- ---- the XOR over the live edges of v
 unfoldable pub xor_if : Bool → ℕ → ℕ → ℕ
@@ -73,13 +67,13 @@ module _ (f : Numbered → ℕ) where
 
   xor_split : (v : ℕ) (ns : List Numbered) {q : Numbered} → first_n v ns ≡ some q → (w : ℕ) → xor_n w ns ≡ xor_if (touches w q.edge) (f q) (xor_n w (without_n v ns))
   unfolding first_n without_n xor_n
-  xor_split v [] h w = absurd (none≢some_n h)
+  xor_split v [] h w = cc
   xor_split v (r ∷ ns) {q} h w = go (touches v r.edge) (λ g. xor_split v ns g w) h
     where
       go : (t : Bool) → (first_n v ns ≡ some q → xor_n w ns ≡ xor_if (touches w q.edge) (f q) (xor_n w (without_n v ns)))
           → cond t (some r) (first_n v ns) ≡ some q
           → xor_if (touches w r.edge) (f r) (xor_n w ns) ≡ xor_if (touches w q.edge) (f q) (xor_n w (cond t ns (r ∷ without_n v ns)))
-      go true ih g = rw (some_inj_n g)
+      go true ih g = let s : r ≡ q = cc in rw s
       go false ih g = rw (ih g) (swap (touches w r.edge) (touches w q.edge) (f r) (f q) (xor_n w (without_n v ns)))
 
   xor_none : (v : ℕ) (ns : List Numbered) → degree v (edges_n ns) ≡ 0 → xor_n v ns ≡ 0
