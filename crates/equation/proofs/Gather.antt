@@ -7,7 +7,6 @@ use native.Mathlib.Omega.{arith}
 use lib.ListN.{length, take, drop, length-drop, take-append-drop}
 use lib.Seq.{take_all, length-take-le}
 use Rattle.gf2.specs.Equation.{sym_diff}
-use Rattle.gf2.proofs.SymDiff.{length-sym_diff-le}
 use Rattle.areas.specs.Stretch.{put}
 use Rattle.areas.proofs.Stretch.{length-put, put_then}
 use Rattle.equation.specs.Merging.{Ended}
@@ -15,10 +14,6 @@ use Rattle.equation.specs.Merging.{Ended}
 -- the part of a slice from i on, as a loan of it is stated
 pub part_from : (l : List ℕ) (i : ℕ) → take (length l - i) (drop i l) ≡ drop i l
 part_from l i = take_all (length l - i) (drop i l) (le_of_eq (length-drop i l))
-
--- the merge and both parts take no more than both lists together
-pub ended_short : {l r : List ℕ} {i j d : ℕ} → Ended l r i j d → d + (length l - i) + (length r - j) ≤ length l + length r
-ended_short {l} {r} e = omega (arith, e.size, length-sym_diff-le l r)
 
 -- what is left of l is written at a, behind the first d variables of the sum, and what is left of r at b, behind that
 pub gather : (before : List ℕ) (s : ℕ) {l r o₁ o₂ o₃ x y : List ℕ} {i j d a b : ℕ} → Ended l r i j d → s + length (sym_diff l r) ≤ length before

@@ -1,3 +1,1 @@
-pub mod InRoom
-pub mod GatherRows
 pub mod SettleRow

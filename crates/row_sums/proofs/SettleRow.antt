@@ -1,44 +1,68 @@
--- What is left once the sum stands in the scratch row: a copy of it to its row, and zeros where it stood.
-use mathlib.Core.Path.{◌≡◌, sym, ap, ◌∙◌}
-use mathlib.Core.List.{List}
+-- The sum of two rows, made in the scratch row and copied to the first of them: what fits, and what stands in the area then.
+use mathlib.Core.Path.{◌≡◌, sym, ap, ap₂, ◌∙◌}
+use mathlib.Core.List.{List, ◌++◌}
 use Prim.Native.Nat.{ℕ, ◌+◌, ◌-◌, ◌≤◌, max}
 use native.Mathlib.Omega.{arith}
-use lib.ListN.{length, replicate, length-replicate}
+use lib.ListN.{length, take, drop, replicate, length-replicate, length-drop, take-append-drop}
+use lib.Seq.{length-take-le}
+use Rattle.gf2.specs.Equation.{sym_diff}
+use Rattle.gf2.proofs.SymDiff.{rising_sym_diff, rising_length}
 use Rattle.areas.specs.Stretch.{stretch, put, zeroed}
 use Rattle.areas.specs.Rows.{padded}
-use Rattle.std.proofs.lemmas.List.{take-replicate}
-use Rattle.areas.proofs.Stretch.{take-stretch, length-put, stretch-put, put_comm, put-put_over, put-stretch}
+use Rattle.areas.proofs.Stretch.{take-stretch, stretch-take, stretch-replicate, length-stretch, stretch-put, put-put_over, put-stretch, put-append_left}
 use Rattle.areas.proofs.Rows.{length-padded, put-padded}
 use Rattle.equation.proofs.Settle.{zeroed_behind}
 use Rattle.row_sums.specs.AddFits.{AddFits}
 use Rattle.row_sums.specs.RowSum.{row_sum}
-use Rattle.row_sums.proofs.InRoom.{lengths_of}
 
--- a list in the scratch row, copied to the row at p, with zeros behind it and where it stood
-settle_row : (area sum : List ℕ) (n p li q lj s : ℕ) → AddFits area n p li q lj s → length sum ≤ n
-    → zeroed s (s + length sum) (zeroed (p + length sum) (p + max li (length sum)) (put p (stretch s (length sum) (put s sum area)) (put s sum area))) ≡ put p (padded n sum) area
-settle_row area sum n p li q lj s f short =
-    let z = lengths_of f in
-    let len : ℕ = length sum in
-    let top : ℕ = max li len in
-    let P : List ℕ = padded top sum in
-    let O : List ℕ = replicate len 0 in
-    let long : length (put s sum area) ≡ length area = length-put s sum area (omega arith) in
-    let len-O : length (replicate {A = ℕ} (length sum) 0) ≡ length sum = length-replicate len 0 in
-    let len-P : length (padded (max li (length sum)) sum) ≡ max li (length sum) = length-padded top sum (omega arith) in
-    let over : s + length sum - s ≡ length sum = omega arith in
-    let scratch : stretch s len area ≡ O = sym (take-stretch len s n area short) ∙ rw f.scratch (take-replicate len n 0 short) in
-    ap (λ (k : ℕ). put s (replicate k 0) (zeroed (p + len) (p + top) (put p (stretch s len (put s sum area)) (put s sum area)))) over
-    ∙ ap (λ (x : List ℕ). put s O (zeroed (p + len) (p + top) (put p x (put s sum area)))) (stretch-put s sum area (omega arith))
-    ∙ ap (λ (x : List ℕ). put s O x) (zeroed_behind p top sum (put s sum area) (omega arith))
-    ∙ sym (put_comm p s P O (put s sum area) (omega arith) (omega arith))
-    ∙ ap (λ (x : List ℕ). put p P x) (put-put_over s s O sum area (omega arith) (omega arith) (omega arith) ∙ ap (λ (x : List ℕ). put s x area) (sym scratch) ∙ put-stretch s len area (omega arith))
-    ∙ put-padded n top p (stretch p li area) sum area f.left_padded (omega (arith, z.left_long)) (omega arith) (omega arith) (omega arith)
+-- a row as it is lent: the part of the rows from p up to p + li
+abbrev lent : ℕ → ℕ → List ℕ → List ℕ
+lent p li rows = take (p + li - p) (drop p rows)
 
--- the same from the equations of the calls
-pub settled : {area₀ a₁ a₂ a₃ a₄ : List ℕ} {n p li q lj s len top : ℕ} → AddFits area₀ n p li q lj s
-    → len ≡ length (row_sum area₀ p li q lj) → a₁ ≡ put s (row_sum area₀ p li q lj) area₀
-    → a₂ ≡ put p (stretch s len a₁) a₁ → top ≡ max li len → a₃ ≡ zeroed (p + len) (p + top) a₂ → a₄ ≡ zeroed s (s + len) a₃
-    → (len ≡ length (row_sum area₀ p li q lj)) × (a₄ ≡ put p (padded n (row_sum area₀ p li q lj)) area₀)
-settled {area₀} {n = n} {p} {li} {q} {lj} {s} f size e₁ e₂ et e₃ e₄ =
-    (size, rw (e₄, e₃, et, e₂, e₁, size) (settle_row area₀ (row_sum area₀ p li q lj) n p li q lj s f (lengths_of f).sum_short))
+module _ {area : List ℕ} {n p li q lj s : ℕ} (f : AddFits area n p li q lj s) {rows : List ℕ} (hr : rows ≡ take s area) where
+  lent_is : (b k : ℕ) → b + k ≤ s → lent b k rows ≡ stretch b k area
+  unfolding stretch
+  lent_is b k h = let e : b + k - b ≡ k = omega arith in rw (hr, e) (stretch-take b k s area h)
+
+  pub sum_is : sym_diff (lent p li rows) (lent q lj rows) ≡ row_sum area p li q lj
+  sum_is = ap₂ sym_diff (lent_is p li (omega (arith, f))) (lent_is q lj (omega (arith, f)))
+
+  pub sum_short : length (sym_diff (lent p li rows) (lent q lj rows)) ≤ n
+  sum_short =
+      rw sum_is (omega (arith, rising_length 0 n (row_sum area p li q lj) (omega arith) (rising_sym_diff 0 n (stretch p li area) (stretch q lj area) f.left_rises f.right_rises)))
+
+  -- zeros where a list was written over zeros
+  zeros_again : (S scratch : List ℕ) → scratch ≡ drop s area → length S ≤ n → zeroed 0 (length S) (put 0 S scratch) ≡ scratch
+  unfolding stretch
+  zeros_again S scratch hs h =
+      let k : ℕ = length S in
+      let e : length S - 0 ≡ length S = omega arith in
+      let rest : length scratch ≡ length area - s = ap length hs ∙ length-drop s area in
+      let z : length (replicate {A = ℕ} (length S) 0) ≡ length S = length-replicate k 0 in
+      let blank : stretch 0 k scratch ≡ replicate k 0 =
+      ap (take k) hs ∙ sym (take-stretch k s n area h) ∙ ap (take k) f.scratch ∙ stretch-replicate 0 k n 0 (omega arith) in
+      ap (λ (j : ℕ). put 0 (replicate j 0) (put 0 S scratch)) e
+      ∙ put-put_over 0 0 (replicate k 0) S scratch (omega arith) (omega arith) (omega arith)
+      ∙ ap (λ (x : List ℕ). put 0 x scratch) (sym blank)
+      ∙ put-stretch 0 k scratch (omega (arith, f))
+
+  -- the sum is copied to the row at p, with zeros behind it and where it was made
+  pub settled : {scratch made first front back : List ℕ} {len top : ℕ} → scratch ≡ drop s area → len ≡ length (sym_diff (lent p li rows) (lent q lj rows))
+      → made ≡ put 0 (sym_diff (lent p li rows) (lent q lj rows)) scratch → first ≡ put p (take len made) rows → top ≡ max li len
+      → front ≡ zeroed (p + len) (p + top) first → back ≡ zeroed 0 len made → front ++ back ≡ put p (padded n (row_sum area p li q lj)) area
+  unfolding stretch
+  settled {scratch} {made} {front = front} {back} {len} {top} hs size hm h₁ ht hf hb =
+      let S : List ℕ = sym_diff (lent p li rows) (lent q lj rows) in
+      let short : length S ≤ n = sum_short in
+      let cut : length rows ≡ s = ap length hr ∙ length-take-le s area (omega (arith, f)) in
+      let rest : length scratch ≡ length area - s = ap length hs ∙ length-drop s area in
+      let whole : rows ++ scratch ≡ area = ap₂ (λ (x y : List ℕ). x ++ y) hr hs ∙ take-append-drop s area in
+      let copied : take len made ≡ S = ap₂ (λ (k : ℕ) (x : List ℕ). take k x) size hm ∙ stretch-put 0 S scratch (omega arith) in
+      let behind : front ≡ put p (padded top S) rows =
+      hf ∙ ap₂ (λ (k : ℕ) (x : List ℕ). zeroed (p + k) (p + top) x) size (h₁ ∙ ap (λ (x : List ℕ). put p x rows) copied) ∙ zeroed_behind p top S rows (omega (arith, f)) in
+      let here : put p (padded top S) rows ++ scratch ≡ put p (padded top S) area =
+      sym (put-append_left p (padded top S) rows scratch (omega (arith, f, length-padded top S (omega arith)))) ∙ ap (put p (padded top S)) whole in
+      ap₂ (λ (x y : List ℕ). x ++ y) behind (hb ∙ ap₂ (λ (k : ℕ) (x : List ℕ). zeroed 0 k x) size hm ∙ zeros_again S scratch hs short)
+      ∙ here
+      ∙ put-padded n top p (stretch p li area) S area f.left_padded (omega (arith, length-stretch p li area (omega (arith, f)))) (omega arith) (omega (arith, f)) (omega (arith, f))
+      ∙ ap (λ (x : List ℕ). put p (padded n x) area) sum_is

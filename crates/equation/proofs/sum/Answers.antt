@@ -37,6 +37,9 @@ unfolding sum_call
 returns-then-out-left c =
     simp (le-leb _ _ c.if-left-gt-MAX_SUMMED.false, le-leb _ _ c.if-right-gt-MAX_SUMMED.false, sym c.increasing.ensures ∙ c.if-not-increasing.false, sym c.increasing-2.ensures ∙ c.if-not-increasing-2.false, lt-leb _ _ c.if-out-left.true) sum_tells
 
+pub add_ptr-len-requires : goal.add_ptr-len-requires
+add_ptr-len-requires c = let h = length-sym_diff-le c.args.left.now c.args.right.now in omega arith
+
 pub fill-requires : goal.fill-requires
 fill-requires c = let h = length-sym_diff-le c.args.left.now c.args.right.now in (omega arith, omega arith)
 

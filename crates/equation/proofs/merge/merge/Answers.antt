@@ -1,12 +1,11 @@
 -- A turn for each order of the two variables; the end of a list.
 use native.Mathlib.Nat.{zero-add}
 use native.Mathlib.Omega.{arith}
-use Rattle.gf2.proofs.SymDiff.{length-sym_diff-le}
 use Rattle.equation.proofs.Turn.{merged_begin, less_fits, more_fits, on_less, on_more, on_both, left_done, right_done}
 use Rattle.equation.proofs.merge.merge.Goals as goal
 
 pub loop-i-init : goal.loop-i-init
-loop-i-init c = merged_begin _ _ _ _ (omega (arith, length-sym_diff-le c.args.left.now c.args.right.now))
+loop-i-init c = merged_begin _ _ _ _ (omega arith)
 
 -- there is room for the variable that is written
 pub bounds-out-d : goal.bounds-out-d
