@@ -48,7 +48,7 @@ found_from es v (suc k) = go (crowds es v) (found_from es (v + 1) k)
 
 -- every edge of a list is alive
 pub all_alive : (es : List Edge) → length es ≤ 256 → take (length es) (replicate 256 true) ≡ replicate (length es) true
-all_alive es h = take-replicate {X = ℕ} (length es) 256 true h
+all_alive es h = take-replicate (length es) 256 true h
 
 -- the first crowd that is found, where every edge is alive
 pub crowd_found : (n : ℕ) (es : List Edge) (r : Option ℕ) → length es ≤ 256
