@@ -1,22 +1,15 @@
 -- The loop that loads a list: what holds before its first turn, what a turn keeps, and what it comes to.
-use mathlib.Core.Path.{◌≡◌, refl, sym, ap, ◌∙◌}
-use mathlib.Core.Bool.{Bool, true, false, ◌&&◌}
-use mathlib.Core.List.{List, [], ◌∷◌}
-use Prim.Native.Nat.{ℕ, suc, ◌+◌, ◌-◌, ◌*◌, ◌≤◌, ◌<◌}
+use Rattle.std.proofs.Common.{◌≡◌, refl, sym, ap, ◌∙◌, Bool, true, false, ◌&&◌, leb, List, [], ◌∷◌, ℕ, suc, ◌+◌, ◌-◌, ◌*◌, ◌≤◌, ◌<◌, length, take, drop, set, Some, None, arith}
 use native.Mathlib.Nat.{suc-mul}
-use native.Mathlib.Omega.{arith}
-use lib.Dec.{leb}
-use lib.ListN.{length, take, drop, set, length-set}
-use lib.Seq.{drop-drop, length-take-le}
-use borrow.Author.Tests.{leb-true, le-leb, lt-leb}
+use lib.ListN.{length-set}
+use lib.Seq.{drop-drop}
+use borrow.Author.Tests.{leb-true, le-leb}
 use Rattle.areas.specs.Stretch.{stretch, put}
-use Rattle.areas.proofs.Stretch.{put_none, put-append, put_comm, length-put, set_is_put}
+use Rattle.areas.proofs.Stretch.{put_none, put-append, put_comm, set_is_put}
 use Rattle.answers.specs.Calls.{pick}
 use Rattle.link_form.specs.Bytes.{little, field, fields}
-use Rattle.link_form.proofs.Scanning.{length_fields}
 use Rattle.replay_cases.specs.declared.lists.ListHead.{ListHead}
-use Rattle.replay_cases.specs.declared.lists.Loaded.{Loaded}
-use Rattle.replay_cases.specs.Lists.{no_list, whole_list, head_at, missing, loads, Loads}
+use Rattle.replay_cases.specs.Lists.{whole_list, head_at, loadable, Loads}
 
 -- ---- a list that was found is all there
 
@@ -24,26 +17,30 @@ pub record Fits (end : ℕ) (head : ListHead) : Type 0 where
   pub there : head.at + head.count * head.width ≤ end
   pub narrow : head.width ≤ 8
 
-no_list_fits : (end : ℕ) → Fits end (no_list end)
-no_list_fits end = record { there = omega arith; narrow = omega arith }
+found : ℕ → ℕ → ℕ → ListHead
+found width count p = record { width = width; count = count; at = p }
 
-whole_fits : (width count p end : ℕ) → Fits end (whole_list width count p end)
-whole_fits width count p end = go (leb width 8) refl (leb (p + count * width) end) refl
+whole_fits : (width count p end : ℕ) (head : ListHead) → whole_list width count p end ≡ Some head → Fits end head
+unfolding found
+whole_fits width count p end head = go (leb width 8) refl (leb (p + count * width) end) refl
   where
     go : (s : Bool) → leb width 8 ≡ s → (t : Bool) → leb (p + count * width) end ≡ t
-        → Fits end (pick (s && t) (record { width = width; count = count; at = p }) (no_list end))
-    go true e true f = record { there = leb-true (p + count * width) end f; narrow = leb-true width 8 e }
-    go true e false f = no_list_fits end
-    go false e t f = no_list_fits end
+        → pick (s && t) (Some (found width count p)) None ≡ Some head → Fits end head
+    go true e true f h =
+        let i : found width count p ≡ head = cc in
+        rw (← i) (record { there = leb-true (p + count * width) end f; narrow = leb-true width 8 e })
+    go true e false f h = cc
+    go false e t f h = cc
 
-pub head_fits : (at : ℕ) (bytes : List ℕ) → Fits (length bytes) (head_at at bytes)
+pub head_fits : (at : ℕ) (bytes : List ℕ) (head : ListHead) → head_at at bytes ≡ Some head → Fits (length bytes) head
 unfolding head_at
-head_fits at bytes = go (leb (at + 3) (length bytes))
+head_fits at bytes head = go (leb (at + 3) (length bytes))
   where
     go : (t : Bool)
-        → Fits (length bytes) (pick t (whole_list (field 1 at bytes) (field 2 (at + 1) bytes) (at + 3) (length bytes)) (no_list (length bytes)))
-    go true = whole_fits (field 1 at bytes) (field 2 (at + 1) bytes) (at + 3) (length bytes)
-    go false = no_list_fits (length bytes)
+        → pick t (whole_list (field 1 at bytes) (field 2 (at + 1) bytes) (at + 3) (length bytes)) None ≡ Some head
+        → Fits (length bytes) head
+    go true h = whole_fits (field 1 at bytes) (field 2 (at + 1) bytes) (at + 3) (length bytes) head h
+    go false h = cc
 
 -- ---- the loop
 
@@ -57,10 +54,10 @@ pub record Loading (bytes : List ℕ) (start w count : ℕ) (before : List ℕ) 
   pub place : p + (count - i) * w ≡ start + count * w
   pub rest : put i (fields w (count - i) (drop p bytes)) out ≡ put 0 (fields w count (drop start bytes)) before
 
-pub loading_begin : (bytes : List ℕ) (start w count : ℕ) (before : List ℕ) → start + count * w ≤ length bytes → w ≤ 8 → count ≤ length before
-    → Loading bytes start w count before start 0 before
-loading_begin bytes start w count before t n s =
-    record { done = omega arith; narrow = n; space = s; long = refl; there = t; place = rw (minus_none count); rest = rw (minus_none count) }
+pub loading_begin : (bytes : List ℕ) (before : List ℕ) (head : ListHead) → Fits (length bytes) head → head.count ≤ length before
+    → Loading bytes head.at head.width head.count before head.at 0 before
+loading_begin bytes before head f s =
+    record { done = omega arith; narrow = f.narrow; space = s; long = refl; there = f.there; place = rw (minus_none head.count); rest = rw (minus_none head.count) }
   where
     minus_none : (k : ℕ) → k - 0 ≡ k
     minus_none k = omega arith
@@ -109,32 +106,13 @@ module _ {bytes : List ℕ} {start w count : ℕ} {before : List ℕ} {p i : ℕ
       let q : p + 0 * w ≡ start + count * w = rw z at l.place in
       (omega arith, sym (put_none i out) ∙ rw z at l.rest)
 
--- ---- what loading says and leaves, from the head that was found
+-- ---- what loading says and leaves
 
-pub loads_short : (widest n : ℕ) (head : ListHead) → n < head.count → loads widest n head ≡ false
-loads_short widest n head h = rw (lt-leb head.count n h)
-
-pub loads_wide : (widest n : ℕ) (head : ListHead) → widest < head.width → loads widest n head ≡ false
-loads_wide widest n head h = rw (lt-leb head.width widest h) (and_false (leb head.count n))
-  where
-    and_false : (b : Bool) → b && false ≡ false
-    and_false true = refl
-    and_false false = refl
-
-pub loads_fit : (widest n : ℕ) (head : ListHead) → head.count ≤ n → head.width ≤ widest → loads widest n head ≡ true
-loads_fit widest n head h g = rw (le-leb head.count n h, le-leb head.width widest g)
-
-pub ends_missing : (widest at : ℕ) (found : ListHead) (bytes out : List ℕ) (said : Loaded) → found ≡ head_at at bytes → said ≡ missing → loads widest (length out) found ≡ false
-    → Loads widest at bytes out said out
-ends_missing widest at found bytes out said e m l =
-    rw (← e, l, m) (omega arith, refl, refl, refl)
-
-pub ends_loaded : (widest at : ℕ) (found : ListHead) (bytes before out : List ℕ) (p : ℕ) → found ≡ head_at at bytes → loads widest (length before) found ≡ true
-    → found.count ≤ length before
-    → (p ≡ found.at + found.count * found.width) × (out ≡ put 0 (fields found.width found.count (drop found.at bytes)) before)
-    → Loads widest at bytes before (record { count = found.count; next = p }) out
-ends_loaded widest at found bytes before out p e l h w =
-    let n : length out ≡ length before =
-    ap length w.1 ∙ length-put 0 (fields found.width found.count (drop found.at bytes)) before (rw length_fields (omega arith)) in
-    let k : found.count ≤ length out = omega arith in
-    rw (← e, l, w.0) (k, sym (length-take-le found.count out k), refl, w.1)
+pub ends_loaded : (widest at : ℕ) (head : ListHead) (bytes before out : List ℕ) (p : ℕ) → head_at at bytes ≡ Some head
+    → head.count ≤ length before → head.width ≤ widest
+    → (p ≡ head.at + head.count * head.width) × (out ≡ put 0 (fields head.width head.count (drop head.at bytes)) before)
+    → Loads widest at bytes before (Some head.count) p out
+ends_loaded widest at head bytes before out p e s n w =
+    let f : loadable widest (length before) (head_at at bytes) ≡ Some head =
+    rw (e, le-leb head.count (length before) s, le-leb head.width widest n) in
+    record { count = rw f; place = rw f w.0; cells = rw f w.1 }

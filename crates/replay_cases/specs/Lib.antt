@@ -1,3 +1,4 @@
 pub mod Judged
 pub mod Lent
 pub mod Lists
+pub mod Ways

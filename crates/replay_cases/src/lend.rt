@@ -1,129 +1,116 @@
 // The ways of lending that each case is called with.
-ghost use Rattle.std.specs.Prelude.{◌≡◌, ◌-◌, ◌≤◌};
+ghost use Rattle.std.specs.Prelude.{◌≡◌, ◌≤◌};
+ghost use Rattle.answers.specs.Answers.{refusal_of};
+ghost use Rattle.answers.specs.Numbers.{number_of, place_of};
 ghost use Rattle.replay_cases.specs.Judged.{plainly};
 ghost use Rattle.replay_cases.specs.Lent.{Lendable, no_room, lengths_for, lent_for, lacking, wanted_for, zeros_after, solution_left};
 
 use crate::said::{Said, refuses};
-use lent_cells::cells::{left_words, same_words};
+use answers::{Numbered, Refusal};
+use lent_cells::cells::left;
 
 // Cells of the solution, of the numbers, and of the words or bytes.
-#[derive(Clone, Copy)]
+#[derive(Clone, Copy, PartialEq, Debug)]
 pub struct Room {
     pub solution: usize,
     pub numbers: usize,
     pub others: usize,
 }
 
-// Exactly the room; more; one number too few; one word or byte too few; one cell of the solution too many.
-pub const WAYS: usize = 5;
+impl Room {
+    pub const NONE: Room = Room {
+        solution: 0,
+        numbers: 0,
+        others: 0,
+    };
+}
 
-fn one_less(x: usize) -> usize
-    ensures { result ≡ x - 1 }
-{
-    if x == 0 {
-        return 0;
-    }
-    x - 1
+#[derive(Clone, Copy, PartialEq, Debug)]
+pub enum Way {
+    // Exactly the room.
+    Exact,
+    More,
+    // One number too few.
+    ShortNumbers,
+    // One word or byte too few.
+    ShortOthers,
+    // One cell of the solution too many.
+    LongSolution,
+}
+
+impl Way {
+    pub const ALL: [Way; 5] = [
+        Way::Exact,
+        Way::More,
+        Way::ShortNumbers,
+        Way::ShortOthers,
+        Way::LongSolution,
+    ];
 }
 
 // The lengths to lend.
-pub fn lent_as(way: usize, room: Room) -> Room
+pub fn lent_as(way: Way, room: Room) -> Room
     ensures value { result ≡ lent_for way room }
     ensures lendable { Lendable result }
 {
-    if 1021 < room.solution {
-        return nothing();
-    }
-    if 65533 < room.numbers {
-        return nothing();
-    }
-    if 1021 < room.others {
-        return nothing();
+    if 1021 < room.solution || 65533 < room.numbers || 1021 < room.others {
+        return Room::NONE;
     }
     lengths(way, room)
 }
 
-fn nothing() -> Room
-    ensures { result ≡ no_room }
-{
-    Room {
-        solution: 0,
-        numbers: 0,
-        others: 0,
-    }
-}
-
-fn lengths(way: usize, room: Room) -> Room
+fn lengths(way: Way, room: Room) -> Room
     requires { (room.solution ≤ 1021) × (room.numbers ≤ 65533) × (room.others ≤ 1021) }
     ensures { result ≡ lengths_for way room }
 {
-    if way == 1 {
-        return Room {
-            solution: room.solution,
-            numbers: room.numbers + 3,
-            others: room.others + 2,
-        };
+    let mut lent = room;
+    match way {
+        Way::Exact => {}
+        Way::More => {
+            lent.numbers += 3;
+            lent.others += 2;
+        }
+        Way::ShortNumbers => lent.numbers = room.numbers.saturating_sub(1),
+        Way::ShortOthers => lent.others = room.others.saturating_sub(1),
+        Way::LongSolution => lent.solution += 1,
     }
-    if way == 2 {
-        return Room {
-            solution: room.solution,
-            numbers: one_less(room.numbers),
-            others: room.others,
-        };
-    }
-    if way == 3 {
-        return Room {
-            solution: room.solution,
-            numbers: room.numbers,
-            others: one_less(room.others),
-        };
-    }
-    if way == 4 {
-        return Room {
-            solution: room.solution + 1,
-            numbers: room.numbers,
-            others: room.others,
-        };
-    }
-    room
+    lent
 }
 
 // Whether a work area is lent one cell too few.
-fn lacks(way: usize, room: Room) -> bool
+fn lacks(way: Way, room: Room) -> bool
     ensures { result ≡ lacking way room }
 {
-    if way == 2 {
-        return 0 < room.numbers;
+    match way {
+        Way::ShortNumbers => 0 < room.numbers,
+        Way::ShortOthers => 0 < room.others,
+        _ => false,
     }
-    if way == 3 {
-        return 0 < room.others;
-    }
-    false
 }
 
 // What must be answered to what is lent so: the rules that come before the areas go before them.
-pub fn wanted(way: usize, room: Room, said: Said) -> Said
+pub fn wanted(way: Way, room: Room, said: Said) -> Said
     ensures { result ≡ wanted_for way room said }
 {
     if refuses(said.number) {
         return said;
     }
     if lacks(way, room) {
-        return refusal(5);
+        return refused(Refusal::ShortArea);
     }
-    if way == 4 {
-        return refusal(4);
+    if way == Way::LongSolution {
+        return refused(Refusal::WrongSolution);
     }
     said
 }
 
-fn refusal(number: u64) -> Said
-    ensures { result ≡ plainly number 0 }
+fn refused(refusal: Refusal) -> Said
+    ensures { result ≡ plainly (number_of (refusal_of refusal)) (place_of (refusal_of refusal)) }
 {
     Said {
-        number,
-        place: 0,
-        panicked: 0,
+        number: u64::from(refusal.number()),
+        place: refusal.place() as u64,
+        panicked: false,
     }
 }
 
@@ -131,10 +118,7 @@ fn refusal(number: u64) -> Said
 pub fn zeros_after(number: u64, room: usize) -> usize
     ensures { result ≡ zeros_after number room }
 {
-    if refuses(number) {
-        return 0;
-    }
-    room
+    if refuses(number) { 0 } else { room }
 }
 
 // Whether the solution is the expected one after 0, and as it was lent after every other number.
@@ -142,7 +126,8 @@ pub fn solution_left(number: u64, solution: &[u64], expected: &[u64]) -> bool
     ensures { result ≡ solution_left number solution.now expected.now }
 {
     if number == 0 {
-        return same_words(solution, expected);
+        solution == expected
+    } else {
+        left(solution, 0)
     }
-    left_words(solution, 0)
 }

@@ -5,3 +5,4 @@ pub mod judging; // answer and cells, held to a case
 pub mod lend; // the ways of lending
 pub mod lists; // the lists of a case
 pub mod said; // what must be answered
+pub mod ways; // each way of lending, tried

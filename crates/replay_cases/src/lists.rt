@@ -1,111 +1,117 @@
 // A case is lists of numbers: the bytes of one number (a byte), how many there are (two bytes), then the numbers; the low byte first.
-ghost use Rattle.std.specs.Prelude.{◌≡◌, ◌≤◌, ◌<◌};
-ghost use Rattle.replay_cases.specs.Lists.{no_list, whole_list, head_at, missing, Loads};
+ghost use Rattle.std.specs.Prelude.{◌≡◌, ℕ, ◌≤◌, ◌<◌, length, map, IsTrue, ◌↔◌, IfSome};
+ghost use Rattle.link_form.specs.Bytes.{power};
+ghost use Rattle.replay_cases.specs.Lists.{whole_list, head_at, Loads};
 
 use link_form::read_number;
 
-// How many numbers were read, and where the next list begins: past every end where the list was broken.
-#[derive(Clone, Copy)]
-pub struct Loaded {
-    pub count: usize,
-    pub next: usize,
+// A number that a list is read to.
+pub trait Listed: Copy {
+    ghost BYTES: { ℕ };
+
+    ghost value: { Self → ℕ };
+
+    // The most bytes that a number of the list may have.
+    const BYTES: usize;
+
+    fn listed(number: u64) -> Self
+        requires { number < power BYTES }
+        ensures { value result ≡ number };
 }
 
-#[derive(Clone, Copy)]
+impl Listed for u32 {
+    ghost BYTES = { 4 };
+
+    ghost value = { λ x. x };
+
+    const BYTES: usize = 4;
+
+    fn listed(number: u64) -> u32 {
+        number as u32
+    }
+}
+
+impl Listed for u64 {
+    ghost BYTES = { 8 };
+
+    ghost value = { λ x. x };
+
+    const BYTES: usize = 8;
+
+    fn listed(number: u64) -> u64 {
+        number
+    }
+}
+
+// The bytes of one number, how many numbers there are, and where they begin.
+#[derive(Clone, Copy, PartialEq, Debug)]
 pub struct ListHead {
     pub width: usize,
     pub count: usize,
     pub at: usize,
 }
 
-// Of a list that is not there, so that no list after it is there either.
-fn broken() -> Loaded
-    ensures { result ≡ missing }
-{
-    Loaded {
-        count: 0,
-        next: usize::MAX,
-    }
+// The lists from `at` on.
+#[derive(Clone, Copy)]
+pub struct Lists<'a> {
+    pub bytes: &'a [u8],
+    pub at: usize,
 }
 
-fn no_list(end: usize) -> ListHead
-    ensures { result ≡ no_list end }
-{
-    ListHead {
-        width: 0,
-        count: usize::MAX,
-        at: end,
+impl<'a> Lists<'a> {
+    pub fn new(bytes: &'a [u8]) -> Lists<'a>
+        ensures bytes { result.bytes.now ≡ bytes.now }
+        ensures at { result.at ≡ 0 }
+    {
+        Lists { bytes, at: 0 }
+    }
+
+    // Whether no byte is left.
+    pub fn at_end(&self) -> bool
+        ensures { IsTrue result ↔ self.now.at ≡ length self.now.bytes.now }
+    {
+        self.at == self.bytes.len()
+    }
+
+    // Reads the next list to the front of `out`, and says how many numbers it has. Where there is no such list, or no room for it, all stays as it is.
+    pub fn load<T: Listed>(&mut self, out: &mut [T]) -> Option<usize>
+        ensures bytes { self.new.bytes.now ≡ self.old.bytes.now }
+        ensures room { IfSome result (λ count. count ≤ length out.old) }
+        ensures loads { Loads T.BYTES self.old.at self.old.bytes.now (map T.value out.old) result self.new.at (map T.value out.new) }
+    {
+        let head = head_at(self.bytes, self.at)?;
+        if out.len() < head.count || T::BYTES < head.width {
+            return None;
+        }
+        let mut at = head.at;
+        for i in 0..head.count {
+            out[i] = T::listed(read_number(self.bytes, at, head.width));
+            at += head.width;
+        }
+        self.at = at;
+        Some(head.count)
     }
 }
 
 // The list whose numbers begin at `at`, if all of them are there.
-fn whole_list(width: usize, count: usize, at: usize, end: usize) -> ListHead
+fn whole_list(width: usize, count: usize, at: usize, end: usize) -> Option<ListHead>
     requires { (width < 256) × (count < 65536) × (at ≤ end) }
     ensures { result ≡ whole_list width count at end }
 {
-    if 8 < width {
-        return no_list(end);
+    if 8 < width || end - at < count * width {
+        return None;
     }
-    if end - at < count * width {
-        return no_list(end);
-    }
-    ListHead { width, count, at }
+    Some(ListHead { width, count, at })
 }
 
-fn head_at(bytes: &[u8], at: usize) -> ListHead
+fn head_at(bytes: &[u8], at: usize) -> Option<ListHead>
     ensures { result ≡ head_at at bytes.now }
 {
     let end = bytes.len();
-    if end < at {
-        return no_list(end);
-    }
-    if end - at < 3 {
-        return no_list(end);
+    if end < at || end - at < 3 {
+        return None;
     }
     let width = read_number(bytes, at, 1) as usize;
     let count = read_number(bytes, at + 1, 2) as usize;
     whole_list(width, count, at + 3, end)
-}
-
-// Reads the list at `at` to the front of `out`, which stays as it is where there is no such list or no room for it.
-pub fn load_words(bytes: &[u8], at: usize, out: &mut [u64]) -> Loaded
-    ensures { Loads 8 at bytes.now out.old result out.new }
-{
-    let head = head_at(bytes, at);
-    let width = head.width;
-    let count = head.count;
-    if out.len() < count {
-        return broken();
-    }
-    let mut p = head.at;
-    let mut i = 0;
-    while i < count {
-        out[i] = read_number(bytes, p, width);
-        p += width;
-        i += 1;
-    }
-    Loaded { count, next: p }
-}
-
-// Reads the list at `at` so, if its numbers have at most four bytes.
-pub fn load_numbers(bytes: &[u8], at: usize, out: &mut [u32]) -> Loaded
-    ensures { Loads 4 at bytes.now out.old result out.new }
-{
-    let head = head_at(bytes, at);
-    let width = head.width;
-    let count = head.count;
-    if out.len() < count {
-        return broken();
-    }
-    if 4 < width {
-        return broken();
-    }
-    let mut p = head.at;
-    let mut i = 0;
-    while i < count {
-        out[i] = read_number(bytes, p, width) as u32;
-        p += width;
-        i += 1;
-    }
-    Loaded { count, next: p }
 }

@@ -1,19 +1,20 @@
 // What a case says must be answered.
-ghost use Rattle.std.specs.Prelude.{◌≡◌, get_or};
+ghost use Rattle.std.specs.Prelude.{◌≡◌};
+ghost use Rattle.answers.specs.Answers.{answer_by};
 ghost use Rattle.replay_cases.specs.Judged.{is_refusal, said_by, agreement, verdict_of};
 
-use answers::Answer;
+use answers::Numbered;
 
-#[derive(Clone, Copy)]
+#[derive(Clone, Copy, PartialEq, Debug)]
 pub struct Said {
     pub number: u64,
     pub place: u64,
-    // Whether the Rust panicked, 1 or 0.
-    pub panicked: u64,
+    // Whether the Rust panicked.
+    pub panicked: bool,
 }
 
 // What came of a case.
-#[derive(Clone, Copy)]
+#[derive(Clone, Copy, PartialEq, Debug)]
 pub enum Verdict {
     // The Rust answered, and so was answered here.
     Same,
@@ -28,49 +29,26 @@ pub enum Verdict {
 pub fn said_of(list: &[u64]) -> Said
     ensures { result ≡ said_by list.now }
 {
-    if list.len() < 3 {
-        return Said {
+    match list {
+        [number, place, panicked, ..] => Said {
+            number: *number,
+            place: *place,
+            panicked: *panicked == 1,
+        },
+        _ => Said {
             number: u64::MAX,
             place: 0,
-            panicked: 0,
-        };
-    }
-    Said {
-        number: list[0],
-        place: list[1],
-        panicked: list[2],
+            panicked: false,
+        },
     }
 }
 
-// The number at `i`, 0 past the end.
-pub fn word_at(list: &[u64], i: usize) -> u64
-    ensures { result ≡ get_or list.now i 0 }
+pub fn agrees<T, E: Numbered>(answer: &Result<T, E>, said: Said) -> bool
+    ensures { result ≡ agreement (answer_by E.answer answer.now) said }
 {
-    if i < list.len() {
-        return list[i];
-    }
-    0
-}
-
-// The number at `i`, 0 past the end.
-pub fn number_at(list: &[u32], i: usize) -> u32
-    ensures { result ≡ get_or list.now i 0 }
-{
-    if i < list.len() {
-        return list[i];
-    }
-    0
-}
-
-pub fn agrees(answer: Answer, said: Said) -> bool
-    ensures { result ≡ agreement answer said }
-{
-    let number = answer.number() as u64;
-    let place = answer.place() as u64;
-    if number == said.number {
-        return place == said.place;
-    }
-    false
+    let number = u64::from(answers::number(answer));
+    let place = answers::place(answer) as u64;
+    number == said.number && place == said.place
 }
 
 pub fn came_of(agreed: bool, said: Said) -> Verdict
@@ -79,7 +57,7 @@ pub fn came_of(agreed: bool, said: Said) -> Verdict
     if !agreed {
         return Verdict::Different;
     }
-    if said.panicked == 1 {
+    if said.panicked {
         return Verdict::Refused;
     }
     if refuses(said.number) {
@@ -92,8 +70,5 @@ pub fn came_of(agreed: bool, said: Said) -> Verdict
 pub fn refuses(number: u64) -> bool
     ensures { result ≡ is_refusal number }
 {
-    if 0 < number {
-        return number < 6;
-    }
-    false
+    0 < number && number < 6
 }
