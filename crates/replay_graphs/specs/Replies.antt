@@ -3,8 +3,7 @@ use Rattle.std.specs.Prelude.{Bool, ◌&&◌, List, ℕ, ◌+◌, leb, eqb, leng
 use Rattle.answers.specs.Numbers.{number_of}
 use Rattle.answers.specs.Answers.{Answer}
 use Rattle.answers.specs.Answers.{Solved}
-use Rattle.stack_steps.specs.declared.Popped.{Popped}
-use Rattle.stack_steps.specs.declared.Popped.TheVariants.{Got, Empty, Refused}
+use Rattle.stack_steps.specs.Stacks.{Popped, Got, Empty, Refused}
 use Rattle.replay_graphs.specs.declared.replies.Reply.{Reply}
 
 abbrev pub valued_reply : Answer → ℕ → ℕ → Reply

@@ -1,137 +1,66 @@
 // Calls on one stack, replayed.
-use crate::replies::{Reply, is_reply, popped, told, valued};
-use answers::Answer;
+use crate::calls::{Call, case_of, replied};
+use crate::replies::{Reply, popped, told, valued};
+use answers::Refusal;
 use peeling::numbers::Vertex;
-use replay_cases::lists::{load_numbers, load_words};
-use replay_cases::said::{Verdict, number_at};
-use stack_steps::{
-    Head, PopStep, Pushed, fast_pop, fast_push, pop_lower_at, pop_upper_at, push_lower_at,
-    push_upper_at,
-};
+use replay_cases::said::Verdict;
+use stacks::Head;
+use stacks::double::DoubleStack;
+use stacks::fast::FastStack;
 
-#[derive(Clone, Copy)]
-pub struct StackStep {
-    pub reply: Reply,
-    pub head: Head,
-}
-
-fn pushed(p: Pushed) -> StackStep {
-    let answer = p.answer;
-    let head = p.head;
-    StackStep {
-        reply: told(answer),
-        head,
-    }
-}
-
-fn after_pop(p: PopStep) -> StackStep {
-    let got = p.got;
-    let head = p.head;
-    StackStep {
-        reply: popped(got),
-        head,
-    }
-}
-
-fn length(count: u32, head: Head) -> StackStep {
-    StackStep {
-        reply: valued(Answer::Solved, count, 0),
-        head,
-    }
+// Which kind of stack is called.
+#[derive(Clone, Copy, PartialEq, Debug)]
+pub enum Stack {
+    Fast,
+    Double,
 }
 
 // No stack of the file has more cells.
-fn small(count: usize) -> u32 {
-    if 16 < count {
-        return 16;
-    }
-    count as u32
-}
+const CELLS: usize = 16;
 
-fn upper_len(stack: &[u32], upper: usize) -> u32 {
-    if stack.len() < upper {
-        return 0;
-    }
-    small(stack.len() - upper)
+fn length(count: usize) -> Reply {
+    valued::<()>(&Ok(()), count.min(CELLS) as u32, 0)
 }
 
 // Push, pop, length.
-fn fast_call(stack: &mut [u32], head: Head, op: u32, x: u32) -> StackStep {
-    if op == 0 {
-        return pushed(fast_push(stack, head, Vertex(x)));
+fn fast_call(head: &mut Head, stack: &mut [u32], call: Call) -> Reply {
+    match call.op {
+        0 => told(&FastStack::push(head, stack, Vertex(call.v))),
+        1 => popped(&FastStack::pop(head, stack)),
+        _ => length(head.lower),
     }
-    if op == 1 {
-        return after_pop(fast_pop(stack, head));
-    }
-    length(small(head.lower), head)
 }
 
 // Push below, push above, pop below, pop above, length above.
-fn double_call(stack: &mut [u32], head: Head, op: u32, x: u32) -> StackStep {
-    if op == 0 {
-        return pushed(push_lower_at(stack, head, Vertex(x)));
+fn double_call(head: &mut Head, stack: &mut [u32], call: Call) -> Reply {
+    match call.op {
+        0 => told(&DoubleStack::push_lower(head, stack, Vertex(call.v))),
+        1 => told(&DoubleStack::push_upper(head, stack, Vertex(call.v))),
+        2 => popped(&DoubleStack::pop_lower(head, stack)),
+        3 => popped(&DoubleStack::pop_upper(head, stack)),
+        _ => length(stack.len().saturating_sub(head.upper)),
     }
-    if op == 1 {
-        return pushed(push_upper_at(stack, head, Vertex(x)));
-    }
-    if op == 2 {
-        return after_pop(pop_lower_at(stack, head));
-    }
-    if op == 3 {
-        return after_pop(pop_upper_at(stack, head));
-    }
-    length(upper_len(stack, head.upper), head)
 }
 
-fn stack_call(double: bool, stack: &mut [u32], head: Head, op: u32, x: u32) -> StackStep {
-    if double {
-        return double_call(stack, head, op, x);
+// Whether an empty stack of `n` cells replies so.
+fn stack_run(kind: Stack, n: u64, calls: &[u32], replies: &[u32]) -> bool {
+    let n = n as usize;
+    if CELLS < n {
+        return false;
     }
-    fast_call(stack, head, op, x)
+    let mut cells = [0u32; CELLS];
+    let stack = &mut cells[..n];
+    let mut head = Head { lower: 0, upper: n };
+    replied(calls, replies, |call| match kind {
+        Stack::Fast => fast_call(&mut head, stack, call),
+        Stack::Double => double_call(&mut head, stack, call),
+    })
 }
 
-// Four numbers a call, of which the stacks use two, and three a reply.
-fn stack_run(double: bool, calls: &[u32], replies: &[u32], stack: &mut [u32]) -> bool {
-    let count = calls.len() / 4;
-    let mut head = Head {
-        lower: 0,
-        upper: stack.len(),
-    };
-    let mut i = 0;
-    while i < count {
-        let op = number_at(calls, 4 * i);
-        let x = number_at(calls, 4 * i + 1);
-        let step = stack_call(double, stack, head, op, x);
-        let next = step.head;
-        let reply = step.reply;
-        if !is_reply(reply, replies, 3 * i) {
-            return false;
-        }
-        head = next;
-        i += 1;
-    }
-    true
-}
-
-pub fn stack_case(double: bool, bytes: &[u8]) -> Verdict {
-    let mut size = [0u64; 1];
-    let mut calls = [0u32; 1024];
-    let mut replies = [0u32; 1024];
-    let mut stack = [0u32; 16];
-    let a = load_words(bytes, 0, &mut size);
-    let b = load_numbers(bytes, a.next, &mut calls);
-    let c = load_numbers(bytes, b.next, &mut replies);
-    if c.next != bytes.len() {
-        return Verdict::Different;
-    }
-    let n = size[0] as usize;
-    if 16 < n {
-        return Verdict::Different;
-    }
-    let i = b.count;
-    let j = c.count;
-    if stack_run(double, &calls[0..i], &replies[0..j], &mut stack[0..n]) {
-        return Verdict::Same;
-    }
-    Verdict::Different
+pub fn stack_case(kind: Stack, bytes: &[u8]) -> Verdict {
+    case_of(
+        bytes,
+        |n, calls, replies| stack_run(kind, n, calls, replies),
+    )
+    .unwrap_or(Verdict::Different)
 }
