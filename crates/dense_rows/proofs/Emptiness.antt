@@ -1,4 +1,4 @@
--- A row without a bit at column n or above: the loop that looks, and what it means for the bits.
+-- A row without a bit at column n or above: its words one after the other, and what it means for the bits.
 use mathlib.Core.Path.{◌≡◌, refl, sym, ap, ap₂, ◌∙◌, subst}
 use mathlib.Core.Logic.{◌↔◌}
 use mathlib.Core.List.{List, [], ◌∷◌}
@@ -12,49 +12,40 @@ use lib.ListN.{length, get_or, drop, drop_of_length-le}
 use lib.Seq.{drop-cons, get_or-drop}
 use lib.Pow.{shr-shr, shr_lt}
 use lib.Dec.{eqb}
+use Rattle.std.specs.List.{list_all}
 use Rattle.gf2.proofs.Each.{each_drop}
 use Rattle.gf2.proofs.Tests.{eqb_true, eqb_ne}
-use Rattle.areas.specs.Stretch.{stretch}
-use Rattle.areas.proofs.Stretch.{length-stretch, get_or-stretch}
 use Rattle.dense_rows.specs.Bits.{bit_at, empty_from, row_fits}
 use Rattle.dense_rows.proofs.BitLaws.{digit_past, some_digit}
 use Rattle.dense_rows.proofs.StepLaws.{WordSized}
 
--- ---- the loop
+-- ---- the words of a row
 
--- the words from word j on, the first of them from the bit on, decide
-pub record Fitting (rows : List ℕ) (at w n bit j : ℕ) : Type 0 where
-  pub room : at + w ≤ length rows
-  pub bit_fits : bit < 64
-  pub same : row_fits n (stretch at w rows) ≡ empty_from bit (drop j (stretch at w rows))
+-- a row that ends before the column's word
+pub fits_short : (n : ℕ) (words : List ℕ) → length words ≤ n / 64 → row_fits n words ≡ true
+unfolding empty_from
+fits_short n words h =
+    let e : drop (n / 64) words ≡ [] = drop_of_length-le words {i = n / 64} (omega arith) in
+    ap (empty_from (n % 64)) e
 
-pub fitting_begin : (rows : List ℕ) (at w n : ℕ) → at + w ≤ length rows → Fitting rows at w n (n % 64) (n / 64)
-fitting_begin rows at w n h = record { room = h; bit_fits = omega arith; same = refl }
+-- the column's word, and then the words after it
+fits_first : (n : ℕ) (words : List ℕ) → n / 64 < length words
+    → row_fits n words ≡ (eqb (get_or words (n / 64) 0 / 2 ^ (n % 64)) 0 && empty_from 0 (drop (n / 64 + 1) words))
+unfolding empty_from
+fits_first n words h = rw (add-one (n / 64)) (ap (empty_from (n % 64)) (drop-cons words (n / 64) 0 h))
 
-module _ {rows : List ℕ} {at w n bit j : ℕ} (f : Fitting rows at w n bit j) where
-  next : j < w → empty_from bit (drop j (stretch at w rows)) ≡ (eqb (get_or rows (at + j) 0 / 2 ^ bit) 0 && empty_from 0 (drop (j + 1) (stretch at w rows)))
-  unfolding empty_from
-  next h =
-      let l = length-stretch at w rows f.room in
-      rw (add-one j) (ap (empty_from bit) (drop-cons (stretch at w rows) j 0 (omega arith))
-      ∙ ap (λ (x : ℕ). eqb (x / 2 ^ bit) 0 && empty_from 0 (drop (suc j) (stretch at w rows))) (get_or-stretch at w j 0 rows h))
+-- the column's word has a bit there
+pub fits_not : (n : ℕ) (words : List ℕ) → n / 64 < length words → (get_or words (n / 64) 0 / 2 ^ (n % 64) ≡ 0 → ⊥) → row_fits n words ≡ false
+fits_not n words h f = fits_first n words h ∙ ap (λ (b : Bool). b && empty_from 0 (drop (n / 64 + 1) words)) (eqb_ne (get_or words (n / 64) 0 / 2 ^ (n % 64)) 0 f)
 
-  pub fitting_found : j < w → (get_or rows (at + j) 0 / 2 ^ bit ≡ 0 → ⊥) → false ≡ row_fits n (stretch at w rows)
-  fitting_found h g = sym (f.same ∙ next h ∙ ap (λ (b : Bool). b && empty_from 0 (drop (j + 1) (stretch at w rows))) (eqb_ne (get_or rows (at + j) 0 / 2 ^ bit) 0 g))
+-- .. or has none
+pub fits_later : (n : ℕ) (words : List ℕ) → n / 64 < length words → get_or words (n / 64) 0 / 2 ^ (n % 64) ≡ 0 → row_fits n words ≡ empty_from 0 (drop (n / 64 + 1) words)
+fits_later n words h e = fits_first n words h ∙ ap (λ (x : ℕ). eqb x 0 && empty_from 0 (drop (n / 64 + 1) words)) e
 
-  pub fitting_turn : j < w → get_or rows (at + j) 0 / 2 ^ bit ≡ 0 → Fitting rows at w n 0 (j + 1)
-  fitting_turn h e = record {
-    room = f.room;
-    bit_fits = omega arith;
-    same = f.same ∙ next h ∙ ap (λ (x : ℕ). eqb x 0 && empty_from 0 (drop (j + 1) (stretch at w rows))) e;
-  }
-
-  pub fitting_end : w ≤ j → true ≡ row_fits n (stretch at w rows)
-  unfolding empty_from
-  fitting_end h =
-      let l = length-stretch at w rows f.room in
-      let e : drop j (stretch at w rows) ≡ [] = drop_of_length-le (stretch at w rows) {i = j} (omega arith) in
-      sym (f.same ∙ ap (empty_from bit) e)
+pub all_zero : (words : List ℕ) → list_all (λ word. eqb word 0) words ≡ empty_from 0 words
+unfolding empty_from
+all_zero [] = refl
+all_zero (x ∷ l) = ap₂ (λ (y : ℕ) (b : Bool). eqb y 0 && b) (sym (div-one x)) (all_zero l)
 
 -- ---- the bits
 

@@ -15,8 +15,6 @@ use Rattle.gf2.specs.Equation.{Each, eval_vars}
 use Rattle.gf2.proofs.XorLaws.{xor_assoc}
 use Rattle.gf2.proofs.Values.{eval_vars-append}
 use Rattle.gf2.proofs.EachMap.{each_front, each_back}
-use Rattle.areas.specs.Stretch.{stretch}
-use Rattle.areas.proofs.Stretch.{get_or-stretch}
 use Rattle.dense_rows.specs.Bits.{bit_at, columns_from, set_bits}
 use Rattle.dense_rows.proofs.ColumnLaws.{columns_from_add}
 use Rattle.dense_rows.proofs.BitLaws.{digit_cases}
@@ -156,41 +154,40 @@ module _ {word base : ℕ} {values : List ℕ} {left value : ℕ} (v : Valuing w
 abbrev pub onward : ℕ → ℕ → List ℕ → List ℕ
 onward w j row = columns_from (64 * (w - j)) (64 * j) row
 
-pub record Summing (words : List ℕ) (at w from : ℕ) (values : List ℕ) (j value : ℕ) : Type 0 where
-  pub below : j ≤ w
-  pub listed : Each (λ u. u < length values) (onward w j (stretch at w words))
-  pub same : bit_xor value (eval_vars (onward w j (stretch at w words)) values) ≡ eval_vars (onward w from (stretch at w words)) values
+pub record Summing (row : List ℕ) (from : ℕ) (values : List ℕ) (j value : ℕ) : Type 0 where
+  pub below : j ≤ length row
+  pub listed : Each (λ u. u < length values) (onward (length row) j row)
+  pub same : bit_xor value (eval_vars (onward (length row) j row) values) ≡ eval_vars (onward (length row) from row) values
 
-pub summing_begin : {words : List ℕ} {at w from : ℕ} {values : List ℕ} → from ≤ w → Each (λ u. u < length values) (onward w from (stretch at w words)) → Summing words at w from values from 0
+pub summing_begin : {row : List ℕ} {from : ℕ} {values : List ℕ} → from ≤ length row → Each (λ u. u < length values) (onward (length row) from row) → Summing row from values from 0
 summing_begin h l = record { below = h; listed = l; same = refl }
 
-module _ {words : List ℕ} {at w from : ℕ} {values : List ℕ} {j value : ℕ} (s : Summing words at w from values j value) (h : j < w) where
-  next_word : onward w j (stretch at w words) ≡ set_bits 64 (64 * j) (get_or words (at + j) 0) ++ onward w (j + 1) (stretch at w words)
+module _ {row : List ℕ} {from : ℕ} {values : List ℕ} {j value : ℕ} (s : Summing row from values j value) (h : j < length row) where
+  next_word : onward (length row) j row ≡ set_bits 64 (64 * j) (get_or row j 0) ++ onward (length row) (j + 1) row
   next_word =
-      let e : 64 * (w - j) ≡ 64 + 64 * (w - (j + 1)) = omega arith in
+      let e : 64 * (length row - j) ≡ 64 + 64 * (length row - (j + 1)) = omega arith in
       let f : 64 * j + 64 ≡ 64 * (j + 1) = omega arith in
-      ap (λ (k : ℕ). columns_from k (64 * j) (stretch at w words)) e
-      ∙ columns_from_add 64 (64 * (w - (j + 1))) (64 * j) (stretch at w words)
-      ∙ ap₂ (λ (a : List ℕ) (c : ℕ). a ++ columns_from (64 * (w - (j + 1))) c (stretch at w words))
-      (columns_of_word j (stretch at w words) ∙ ap (set_bits 64 (64 * j)) (get_or-stretch at w j 0 words h)) f
+      ap (λ (k : ℕ). columns_from k (64 * j) row) e
+      ∙ columns_from_add 64 (64 * (length row - (j + 1))) (64 * j) row
+      ∙ ap₂ (λ (a : List ℕ) (c : ℕ). a ++ columns_from (64 * (length row - (j + 1))) c row) (columns_of_word j row) f
 
-  pub summing_listed : Each (λ u. u < length values) (set_bits 64 (64 * j) (get_or words (at + j) 0))
-  summing_listed = each_front (λ u. u < length values) (set_bits 64 (64 * j) (get_or words (at + j) 0)) (onward w (j + 1) (stretch at w words)) (rw next_word at s.listed)
+  pub summing_listed : Each (λ u. u < length values) (set_bits 64 (64 * j) (get_or row j 0))
+  summing_listed = each_front (λ u. u < length values) (set_bits 64 (64 * j) (get_or row j 0)) (onward (length row) (j + 1) row) (rw next_word at s.listed)
 
-  pub summing_turn : {v : ℕ} → v ≡ eval_vars (set_bits 64 (64 * j) (get_or words (at + j) 0)) values → Summing words at w from values (j + 1) (bit_xor value v)
+  pub summing_turn : {v : ℕ} → v ≡ eval_vars (set_bits 64 (64 * j) (get_or row j 0)) values → Summing row from values (j + 1) (bit_xor value v)
   summing_turn {v} e = record {
     below = omega arith;
-    listed = each_back (λ u. u < length values) (set_bits 64 (64 * j) (get_or words (at + j) 0)) (onward w (j + 1) (stretch at w words)) (rw next_word at s.listed);
+    listed = each_back (λ u. u < length values) (set_bits 64 (64 * j) (get_or row j 0)) (onward (length row) (j + 1) row) (rw next_word at s.listed);
     same =
-        xor_assoc value v (eval_vars (onward w (j + 1) (stretch at w words)) values)
-        ∙ ap (λ (a : ℕ). bit_xor value (bit_xor a (eval_vars (onward w (j + 1) (stretch at w words)) values))) e
-        ∙ ap (bit_xor value) (sym (eval_vars-append (set_bits 64 (64 * j) (get_or words (at + j) 0)) (onward w (j + 1) (stretch at w words)) values))
+        xor_assoc value v (eval_vars (onward (length row) (j + 1) row) values)
+        ∙ ap (λ (a : ℕ). bit_xor value (bit_xor a (eval_vars (onward (length row) (j + 1) row) values))) e
+        ∙ ap (bit_xor value) (sym (eval_vars-append (set_bits 64 (64 * j) (get_or row j 0)) (onward (length row) (j + 1) row) values))
         ∙ ap (λ (l : List ℕ). bit_xor value (eval_vars l values)) (sym next_word) ∙ s.same;
   }
 
-pub summing_end : {words : List ℕ} {at w from : ℕ} {values : List ℕ} {j value : ℕ} → Summing words at w from values j value → w ≤ j
-    → value ≡ eval_vars (onward w from (stretch at w words)) values
+pub summing_end : {row : List ℕ} {from : ℕ} {values : List ℕ} {j value : ℕ} → Summing row from values j value → length row ≤ j
+    → value ≡ eval_vars (onward (length row) from row) values
 unfolding columns_from eval_vars
-summing_end {words} {at} {w} {from} {values} {j} {value} s h =
-    let z : 64 * (w - j) ≡ 0 = omega arith in
-    sym (ap (λ (k : ℕ). bit_xor value (eval_vars (columns_from k (64 * j) (stretch at w words)) values)) z ∙ xor_zero_r value) ∙ s.same
+summing_end {row} {from} {values} {j} {value} s h =
+    let z : 64 * (length row - j) ≡ 0 = omega arith in
+    sym (ap (λ (k : ℕ). bit_xor value (eval_vars (columns_from k (64 * j) row) values)) z ∙ xor_zero_r value) ∙ s.same

@@ -1,14 +1,12 @@
 -- What a column does with rows: the pivot search, rows that change places, and the XOR with the pivot row.
-use Rattle.std.specs.Prelude.{List, [], ◌∷◌, ◌++◌, map, true, false, ℕ, suc, ◌+◌, ◌/◌, take, drop, get_or, set}
+use Rattle.std.specs.Prelude.{Option, Some, None, List, [], ◌∷◌, ◌++◌, map, true, false, ℕ, suc, ◌+◌, ◌/◌, take, drop, get_or, set}
 use Rattle.std.specs.Int.Bits.{bit_xor}
 use Rattle.dense_rows.specs.Bits.{Row, has_bit, xor_words}
-use Rattle.dense_rows.specs.declared.Pivot.{Pivot}
-use Rattle.dense_rows.specs.declared.Pivot.TheVariants.{At, Nowhere}
 
 -- the first of the rows, numbered from i on, that has column c
-unfoldable pub pivot_from : ℕ → ℕ → List Row → Pivot
-pivot_from c i [] = Nowhere
-pivot_from c i (row ∷ rows) = elim (has_bit c row) [ true ↦ At i | false ↦ pivot_from c (suc i) rows ]
+unfoldable pub pivot_from : ℕ → ℕ → List Row → Option ℕ
+pivot_from c i [] = None
+pivot_from c i (row ∷ rows) = elim (has_bit c row) [ true ↦ Some i | false ↦ pivot_from c (suc i) rows ]
 
 -- a row with another's words from word k on, that word included, and with the other's constant
 unfoldable pub from_word : ℕ → Row → Row → Row

@@ -1,21 +1,13 @@
 // Rows without a bit at column n or above.
-ghost use Rattle.std.specs.Prelude.{◌≡◌, ◌+◌, ◌*◌, ◌≤◌, length};
-ghost use Rattle.areas.specs.Stretch.{stretch};
+ghost use Rattle.std.specs.Prelude.{◌≡◌};
 ghost use Rattle.dense_rows.specs.Bits.{row_fits};
 
-// Whether the row of `w` words that begins at `at` has no bit at column `n` or above.
-pub fn row_fits(rows: &[u64], at: usize, w: usize, n: usize) -> bool
-    requires { at + w ≤ length rows.now }
-    ensures { result ≡ row_fits n (stretch at w rows.now) }
+// Whether the row has no bit at column `n` or above.
+pub fn row_fits(row: &[u64], n: usize) -> bool
+    ensures { result ≡ row_fits n row.now }
 {
-    let mut bit = n % 64;
-    let mut j = n / 64;
-    while j < w {
-        if rows[at + j] >> bit != 0 {
-            return false;
-        }
-        bit = 0;
-        j += 1;
-    }
-    true
+    let Some(first) = row.get(n / 64) else {
+        return true;
+    };
+    first >> (n % 64) == 0 && row[n / 64 + 1..].iter().all(|word| *word == 0)
 }

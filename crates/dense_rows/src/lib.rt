@@ -5,9 +5,12 @@ pub mod fits;
 pub mod search;
 pub mod values;
 
-// The row at which the pivot search ended, if one has the column.
+// A lent dense system in `n` variables: `m` rows of `w` words, one after the other, and as many constants.
 #[derive(Clone, Copy)]
-pub enum Pivot {
-    At(usize),
-    Nowhere,
+pub struct DenseSystem<'a> {
+    pub n: usize,
+    pub m: usize,
+    pub w: usize,
+    pub rows: &'a [u64],
+    pub constants: &'a [u64],
 }

@@ -1,8 +1,7 @@
 // The XOR of the values of a row's columns.
-ghost use Rattle.std.specs.Prelude.{◌≡◌, ◌+◌, ◌-◌, ◌*◌, ◌≤◌, ◌<◌, length};
+ghost use Rattle.std.specs.Prelude.{◌≡◌, ◌-◌, ◌*◌, ◌≤◌, ◌<◌, length};
 ghost use Rattle.gf2.specs.Equation.{Each, eval_vars};
 ghost use Rattle.answers.specs.Sizes.{max_row_words};
-ghost use Rattle.areas.specs.Stretch.{stretch};
 ghost use Rattle.dense_rows.specs.Bits.{columns_from, set_bits};
 
 // The XOR of the values of a word's set bits, numbered from `base` on: lowest first.
@@ -11,22 +10,23 @@ pub fn word_value(word: u64, base: usize, values: &[u64]) -> u64
     ensures { result ≡ eval_vars (set_bits 64 base word) values.now }
 {
     let mut left = word;
-    let mut value = 0u64;
+    let mut value = 0;
+    // no range or iterator of the library goes over the set bits of a word
     while left != 0 {
-        value ^= values[base + u64::trailing_zeros(left) as usize];
+        value ^= values[base + left.trailing_zeros() as usize];
         left &= left - 1;
     }
     value
 }
 
-// The XOR of the values of a row's columns, from its word `from` on; the row begins at `at`.
-pub fn row_value(words: &[u64], at: usize, w: usize, from: usize, values: &[u64]) -> u64
-    requires { (from ≤ w) × (w ≤ max_row_words) × (at + w ≤ length words.now) × Each (λ u. u < length values.now) (columns_from (64 * (w - from)) (64 * from) (stretch at w words.now)) }
-    ensures { result ≡ eval_vars (columns_from (64 * (w - from)) (64 * from) (stretch at w words.now)) values.now }
+// The XOR of the values of a row's columns, from its word `from` on.
+pub fn row_value(row: &[u64], from: usize, values: &[u64]) -> u64
+    requires { (from ≤ length row.now) × (length row.now ≤ max_row_words) × Each (λ u. u < length values.now) (columns_from (64 * (length row.now - from)) (64 * from) row.now) }
+    ensures { result ≡ eval_vars (columns_from (64 * (length row.now - from)) (64 * from) row.now) values.now }
 {
-    let mut value = 0u64;
-    for j in from..w {
-        value ^= word_value(words[at + j], 64 * j, values);
+    let mut value = 0;
+    for j in from..row.len() {
+        value ^= word_value(row[j], 64 * j, values);
     }
     value
 }
