@@ -5,7 +5,7 @@ use mathlib.Core.Logic.{◌≢◌}
 use Prim.Native.Nat.{ℕ, zero, suc, ◌+◌, ◌-◌, ◌*◌, ◌<◌, ◌≤◌}
 use native.Mathlib.Nat.{add-zero, zero-add}
 use native.Mathlib.Omega.{arith}
-use lib.ListN.{length, get_or, drop, set, length-set}
+use lib.ListN.{length, get_or, take, drop, set, length-set}
 use lib.Seq.{ext_get_or, get_or-drop, get_or-set_same, get_or-set_other}
 use Rattle.gf2.specs.Equation.{Each}
 use Rattle.gf2.proofs.Tests.{Tri, less, same, more, tri}
@@ -50,6 +50,13 @@ unfolding row_at
 rows_wide m w words constants h =
     rows_each (Wide w) m w 0 words constants (λ j _ l. length-stretch (j * w) w words (omega (arith, row_before j m w (omega arith))))
 
+-- the words of row i, as they are lent
+pub row_lent : (m w : ℕ) (words constants : List ℕ) (i : ℕ) → i < m → (get_or (rows_of m w words constants) i no_row).words ≡ take (i * w + w - i * w) (drop (i * w) words)
+unfolding row_at stretch
+row_lent m w words constants i h =
+    let e : i * w + w - i * w ≡ w = omega arith in
+    rw e (ap (λ (r : Row). r.words) (row_of m w words constants i h))
+
 -- ---- a work area in which a stretch is written
 
 -- row i with s written over its words from word k on
@@ -60,7 +67,7 @@ abbrev pub constant_put : ℕ → Row → Row
 constant_put v row = record { words = row.words; c = v }
 
 module _ (m w : ℕ) (area : List ℕ) (room : m * w + m ≤ length area) where
-  held_length : length (held m w area) ≡ m
+  pub held_length : length (held m w area) ≡ m
   held_length = rows_length m w 0 area (drop (m * w) area)
 
   -- into row i

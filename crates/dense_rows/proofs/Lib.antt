@@ -7,3 +7,6 @@ pub mod BitTest
 pub mod Searching
 pub mod SetBits
 pub mod Emptiness
+pub mod RowRules
+pub mod Lending
+pub mod Holding

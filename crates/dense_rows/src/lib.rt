@@ -1,16 +1,10 @@
-// Rows of bits in lent words: whether they fit, the pivot search, and their value.
+// Rows of bits: a lent dense system with its rules, and the work area in which it is eliminated.
 #![tactic(auto)]
 
+mod area;
 pub mod fits;
-pub mod search;
+mod system;
 pub mod values;
 
-// A lent dense system in `n` variables: `m` rows of `w` words, one after the other, and as many constants.
-#[derive(Clone, Copy)]
-pub struct DenseSystem<'a> {
-    pub n: usize,
-    pub m: usize,
-    pub w: usize,
-    pub rows: &'a [u64],
-    pub constants: &'a [u64],
-}
+pub use area::Area;
+pub use system::DenseSystem;

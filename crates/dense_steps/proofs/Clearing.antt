@@ -1,124 +1,104 @@
--- A loop that clears the rows below the pivot row, one row a turn.
-use mathlib.Core.Path.{◌≡◌, refl, sym, ap, ap₂, ◌∙◌}
-use mathlib.Core.List.{List, [], ◌∷◌, ◌++◌, map, append_assoc, append-nil}
-use Prim.Native.Nat.{ℕ, suc, ◌+◌, ◌*◌, ◌<◌, ◌≤◌}
-use native.Mathlib.Nat.{ne_of_lt}
-use native.Mathlib.Numerals.{add-one}
+-- Rows that are cleared one after the other, and the pivot row that is brought up before.
+use mathlib.Core.Path.{◌≡◌, sym, ap, ap₂, ◌∙◌}
+use mathlib.Core.Logic.{◌⊎◌, inl, inr, ⊎_elim}
+use mathlib.Core.Bool.{true, false}
+use mathlib.Core.List.{List, [], ◌∷◌, ◌++◌, map, append-nil, map-append}
+use Prim.Native.Nat.{ℕ, ◌+◌, ◌-◌, ◌/◌, ◌<◌, ◌≤◌}
 use native.Mathlib.Omega.{arith}
-use lib.ListN.{length, get_or, set, take, drop, drop_of_length-le, take-append-drop}
-use lib.Seq.{drop-cons, take-suc, take-suc-set, drop-set-lt, get_or-set_other, set-set, set-get_or, take_all}
-use lib.Bits.{bit_and}
-use Rattle.dense_rows.specs.Bits.{Row}
-use Rattle.dense_rows.specs.Rows.{held, Became}
+use lib.ListN.{length, get_or, set, take, drop, length-drop, length-map, drop_of_length-le, take-append-drop}
+use lib.Seq.{drop-cons, set-set, set-get_or, take_all}
+use Rattle.areas.specs.Stretch.{stretch, put}
+use Rattle.areas.proofs.Stretch.{length-stretch, stretch_none, stretch_split, put_none, put_more, get_or-put_before, get_or-put_after}
+use Rattle.dense_rows.specs.Bits.{Row, has_bit}
 use Rattle.dense_rows.specs.Steps.{no_row, xor_from, clear_row, clear_below, swap_rows, from_word}
-use Rattle.dense_rows.proofs.StepLaws.{clear_row-set, clear_row_unset}
-use Rattle.dense_rows.proofs.HeldLaws.{rows_length}
-use Rattle.dense_rows.proofs.BitTest.{Column, row_unset, row_set, row_word}
+use Rattle.dense_rows.specs.Areas.{rows_in, Holds}
+use Rattle.dense_rows.specs.declared.area.Area.{Area}
+use Rattle.dense_rows.proofs.Holding.{rows_count, holds_then, holds_in, holds_as, holds_same}
+use Rattle.dense_steps.specs.Clearing.{cleared_row, cleared_rows}
 
--- the rows up to row i are as they shall be, and those from i on as they were
-pub record Clearing (before : List ℕ) (m w col rank word bit i : ℕ) (area : List ℕ) : Type 0 where
-  pub column : Column w col word bit
-  pub above : rank < i
-  pub below : i ≤ m
-  pub room : m * w + m ≤ length area
-  pub long : length area ≡ length before
-  pub past : drop (m * w + m) area ≡ drop (m * w + m) before
-  pub pivot : get_or (held m w area) rank no_row ≡ get_or (held m w before) rank no_row
-  pub same : clear_below col rank (held m w before) ≡ take i (held m w area) ++ map (clear_row col (get_or (held m w before) rank no_row)) (drop i (held m w area))
+-- ---- one row more
 
-pub clearing_begin : {before : List ℕ} {m w col rank word bit : ℕ} → Column w col word bit → rank < m → m * w + m ≤ length before
-    → Clearing before m w col rank word bit (rank + 1) before
-unfolding clear_below
-clearing_begin k h room = record { column = k; above = omega arith; below = omega arith; room = room; long = refl; past = refl; pivot = refl; same = refl }
+cleared_row_set : (c k : ℕ) (p r : Row) → has_bit c r ≡ true → cleared_row c k p r ≡ xor_from k p r
+unfolding cleared_row
+cleared_row_set c k p r e = rw (e, cleared_row)
 
-module _ {before : List ℕ} {m w col rank word bit i : ℕ} {area : List ℕ} (s : Clearing before m w col rank word bit i area) where
-  row : Row
-  row = get_or (held m w area) i no_row
+cleared_row_unset : (c k : ℕ) (p r : Row) → has_bit c r ≡ false → cleared_row c k p r ≡ r
+unfolding cleared_row
+cleared_row_unset c k p r e = rw (e, cleared_row)
 
-  top : Row
-  top = get_or (held m w before) rank no_row
+stretch_row : (i n : ℕ) (rows : List Row) → i + n < length rows → stretch i (n + 1) rows ≡ stretch i n rows ++ (get_or rows (i + n) no_row ∷ [])
+unfolding stretch
+stretch_row i n rows h = stretch_split i n 1 rows ∙ ap (λ (l : List Row). take n (drop i rows) ++ take 1 l) (drop-cons rows (i + n) no_row h)
 
-  count : length (held m w area) ≡ m
-  count = rows_length m w 0 area (drop (m * w) area)
+module _ (c k p from : ℕ) (rows : List Row) where
+  pub cleared_none : cleared_rows c k p from from rows ≡ rows
+  unfolding cleared_rows
+  cleared_none =
+      let z : from - from ≡ 0 = omega arith in
+      let f = cleared_row c k (get_or rows p no_row) in
+      ap (λ (n : ℕ). put from (map f (stretch from n rows)) rows) z ∙ ap (λ (l : List Row). put from (map f l) rows) (stretch_none from rows) ∙ put_none from rows
 
-  -- row i joins the rows that are as they shall be
-  one_more : i < m → take i (held m w area) ++ map (clear_row col top) (drop i (held m w area)) ≡ (take i (held m w area) ++ (clear_row col top row ∷ [])) ++ map (clear_row col top) (drop (suc i) (held m w area))
-  unfolding row
-  one_more h =
-      let n = count in
-      ap (λ (l : List Row). take i (held m w area) ++ map (clear_row col top) l) (drop-cons (held m w area) i no_row (omega arith))
-      ∙ sym (append_assoc (take i (held m w area)) (clear_row col top row ∷ []) (map (clear_row col top) (drop (suc i) (held m w area))))
+  module _ (i : ℕ) (h : from ≤ i) where
+    so_many : i ≤ length rows → length (map (cleared_row c k (get_or rows p no_row)) (stretch from (i - from) rows)) ≡ i - from
+    so_many l = length-map (stretch from (i - from) rows) (cleared_row c k (get_or rows p no_row)) ∙ length-stretch from (i - from) rows (omega arith)
 
-  -- the column's word of row i
-  pub clearing_place : i < m → i * w + word < length area
-  clearing_place h = row_word s.column m area s.room i h
+    -- the rows before and past those that are cleared
+    pub cleared_other : i ≤ length rows → (j : ℕ) → (j < from) ⊎ (i ≤ j) → get_or (cleared_rows c k p from i rows) j no_row ≡ get_or rows j no_row
+    unfolding cleared_rows
+    cleared_other l j (inl o) = get_or-put_before from j no_row _ rows o (omega arith)
+    cleared_other l j (inr o) = let n = so_many l in get_or-put_after from j no_row _ rows (omega arith) (omega arith)
+
+    pub cleared_more : i < length rows → set (cleared_rows c k p from i rows) i (cleared_row c k (get_or rows p no_row) (get_or rows i no_row)) ≡ cleared_rows c k p from (i + 1) rows
+    unfolding cleared_rows
+    cleared_more l =
+        let f = cleared_row c k (get_or rows p no_row) in
+        let s = stretch from (i - from) rows in
+        let n = so_many (omega arith) in
+        let e : from + (i - from) ≡ i = omega arith in
+        let e' : i + 1 - from ≡ i - from + 1 = omega arith in
+        let at : from + length (map f s) ≡ i = omega arith in
+        let more : stretch from (i - from + 1) rows ≡ s ++ (get_or rows i no_row ∷ []) = stretch_row from (i - from) rows (omega arith) ∙ ap (λ (j : ℕ). s ++ (get_or rows j no_row ∷ [])) e in
+        ap (λ (j : ℕ). set (put from (map f s) rows) j (f (get_or rows i no_row))) (sym at)
+        ∙ put_more from (f (get_or rows i no_row)) (map f s) rows (omega arith)
+        ∙ ap (λ (l : List Row). put from l rows) (sym (map-append f s (get_or rows i no_row ∷ [])) ∙ ap (map f) (sym more))
+        ∙ ap (λ (n : ℕ). put from (map f (stretch from n rows)) rows) (sym e')
+
+-- ---- a loop that clears rows
+
+module _ (col word pivot from i : ℕ) {a b : Area} (h : Holds a (cleared_rows col word pivot from i (rows_in a)) b) (f : from ≤ i) (l : i < a.m) (o : (pivot < from) ⊎ (i < pivot)) where
+  here : get_or (rows_in b) i no_row ≡ get_or (rows_in a) i no_row
+  here = let n = rows_count a in ap (λ (rows : List Row). get_or rows i no_row) (holds_in h) ∙ cleared_other col word pivot from (rows_in a) i f (omega arith) i (inr (omega arith))
+
+  top : get_or (rows_in b) pivot no_row ≡ get_or (rows_in a) pivot no_row
+  top =
+      let n = rows_count a in
+      ap (λ (rows : List Row). get_or rows pivot no_row) (holds_in h)
+      ∙ cleared_other col word pivot from (rows_in a) i f (omega arith) pivot (⊎_elim (λ z. inl z) (λ z. inr (omega arith)) o)
+
+  next : (r : Row) → r ≡ cleared_row col word (get_or (rows_in b) pivot no_row) (get_or (rows_in b) i no_row)
+      → set (cleared_rows col word pivot from i (rows_in a)) i r ≡ cleared_rows col word pivot from (i + 1) (rows_in a)
+  next r e =
+      let n = rows_count a in
+      ap (set (cleared_rows col word pivot from i (rows_in a)) i) (e ∙ ap₂ (cleared_row col word) top here) ∙ cleared_more col word pivot from (rows_in a) i f (omega arith)
 
   -- row i has not the column
-  pub clearing_skip : i < m → bit_and (get_or area (i * w + word) 0) bit ≡ 0 → Clearing before m w col rank word bit (i + 1) area
-  unfolding row top
-  clearing_skip h e =
-      let n = count in
-      let a = s.above in
-      let b = row_unset s.column m area s.room i h e in
-      record {
-        column = s.column;
-        above = omega arith;
-        below = omega arith;
-        room = s.room;
-        long = s.long;
-        past = s.past;
-        pivot = s.pivot;
-        same =
-            rw (add-one i) (s.same ∙ one_more h
-            ∙ ap (λ (l : List Row). l ++ map (clear_row col top) (drop (suc i) (held m w area)))
-            (ap (λ (r : Row). take i (held m w area) ++ (r ∷ [])) (clear_row_unset col top row b) ∙ sym (take-suc (held m w area) i no_row (omega arith))));
-      }
+  pub clear_skip : has_bit col (get_or (rows_in b) i no_row) ≡ false → Holds a (cleared_rows col word pivot from (i + 1) (rows_in a)) b
+  clear_skip e =
+      let rows : List Row = cleared_rows col word pivot from i (rows_in a) in
+      let same : set rows i (get_or (rows_in b) i no_row) ≡ rows = ap (λ (q : List Row). set rows i (get_or q i no_row)) (holds_in h) ∙ set-get_or rows i no_row in
+      holds_as (sym same ∙ next (get_or (rows_in b) i no_row) (sym (cleared_row_unset col word (get_or (rows_in b) pivot no_row) (get_or (rows_in b) i no_row) e))) h
 
   -- row i has it, and the pivot row is XORed into it
-  pub clearing_turn : {after : List ℕ} → i < m → (bit_and (get_or area (i * w + word) 0) bit ≡ 0 → ⊥)
-      → Became m w area (set (held m w area) i (xor_from word (get_or (held m w area) rank no_row) (get_or (held m w area) i no_row))) after
-      → Clearing before m w col rank word bit (i + 1) after
-  unfolding row top
-  clearing_turn {after} h f r =
-      let n = count in
-      let a = s.above in
-      let g = s.room in
-      let l = r.long in
-      let b = row_set s.column m area s.room i h f in
-      let x : Row = xor_from word (get_or (held m w area) rank no_row) row in
-      let new : clear_row col top row ≡ x =
-      clear_row-set col top row b ∙ ap₂ (λ (k : ℕ) (p : Row). xor_from k p row) (sym s.column.word_is) (sym s.pivot) in
-      record {
-        column = s.column;
-        above = omega arith;
-        below = omega arith;
-        room = omega arith;
-        long = r.long ∙ s.long;
-        past = r.past ∙ s.past;
-        pivot = ap (λ (q : List Row). get_or q rank no_row) r.holds ∙ get_or-set_other (held m w area) i rank x no_row (ne_of_lt a) ∙ s.pivot;
-        same =
-            rw (add-one i) (s.same ∙ one_more h
-            ∙ ap₂ (λ (p q : List Row). p ++ map (clear_row col top) q)
-            (ap (λ (y : Row). take i (held m w area) ++ (y ∷ [])) new ∙ sym (take-suc-set (held m w area) i x (omega arith)) ∙ ap (λ (q : List Row). take (suc i) q) (sym r.holds))
-            (sym (drop-set-lt (suc i) (held m w area) i x (omega arith)) ∙ ap (λ (q : List Row). drop (suc i) q) (sym r.holds)));
-      }
-
-  pub clearing_end : m ≤ i → Became m w before (clear_below col rank (held m w before)) area
-  clearing_end h =
-      let n = count in
-      let b = s.below in
-      record {
-        long = s.long;
-        holds =
-            sym (s.same ∙ ap₂ (λ (p q : List Row). p ++ map (clear_row col (get_or (held m w before) rank no_row)) q) (take_all i (held m w area) (omega arith)) (drop_of_length-le (held m w area) {i = i} (omega arith))
-            ∙ append-nil (held m w area));
-        past = s.past;
-      }
+  pub clear_turn : {c : Area} → has_bit col (get_or (rows_in b) i no_row) ≡ true
+      → Holds b (set (rows_in b) i (xor_from word (get_or (rows_in b) pivot no_row) (get_or (rows_in b) i no_row))) c → Holds a (cleared_rows col word pivot from (i + 1) (rows_in a)) c
+  clear_turn e g =
+      let r : Row = xor_from word (get_or (rows_in b) pivot no_row) (get_or (rows_in b) i no_row) in
+      holds_as (next r (sym (cleared_row_set col word (get_or (rows_in b) pivot no_row) (get_or (rows_in b) i no_row) e))) (holds_then (λ (rows : List Row). set rows i r) h g)
 
 -- ---- the pivot row is brought up, and then the rows below are cleared
 
 -- a row that changes places with itself
-pub swap_self : (k i : ℕ) (rows : List Row) → swap_rows k i i rows ≡ rows
+swap_self : (k i : ℕ) (rows : List Row) → swap_rows k i i rows ≡ rows
 unfolding swap_rows from_word
 swap_self k i rows =
     let a : Row = get_or rows i no_row in
@@ -126,14 +106,23 @@ swap_self k i rows =
     ap₂ (λ (x y : List ℕ). set (set rows i (record { words = x; c = a.c })) i (record { words = y; c = a.c })) e e
     ∙ set-set rows i a a ∙ set-get_or rows i no_row
 
--- one step after another
-pub became_then : {m w : ℕ} {a b c : List ℕ} {rows : List Row} (f : List Row → List Row) → Became m w a rows b → Became m w b (f (held m w b)) c → Became m w a (f rows) c
-became_then f p q = record { long = q.long ∙ p.long; holds = q.holds ∙ ap f p.holds; past = q.past ∙ p.past }
+-- .. and its row, which stands at the rank already
+pub stays : {a : Area} (k rank pivot : ℕ) → pivot ≡ rank → Holds a (swap_rows k rank pivot (rows_in a)) a
+stays {a} k rank pivot e = holds_same (sym (ap (λ (r : ℕ). swap_rows k rank r (rows_in a)) e ∙ swap_self k rank (rows_in a)))
 
--- no step, where the pivot row stands at the rank already
-pub became_same : (m w k i j : ℕ) (before after : List ℕ) → j ≡ i → after ≡ before → Became m w before (swap_rows k i j (held m w before)) after
-became_same m w k i j before after e f = record {
-  long = ap length f;
-  holds = ap (held m w) f ∙ sym (ap (λ (r : ℕ). swap_rows k i r (held m w before)) e ∙ swap_self k i (held m w before));
-  past = ap (drop (m * w + m)) f;
-}
+-- the rows below row i are those from the next up to the last
+cleared_below : (c i m : ℕ) (rows : List Row) → i < m → length rows ≡ m → cleared_rows c (c / 64) i (i + 1) m rows ≡ clear_below c i rows
+unfolding cleared_rows cleared_row clear_below clear_row put stretch
+cleared_below c i m rows h n =
+    let f = cleared_row c (c / 64) (get_or rows i no_row) in
+    let d = length-drop (i + 1) rows in
+    let all : take (m - (i + 1)) (drop (i + 1) rows) ≡ drop (i + 1) rows = take_all (m - (i + 1)) (drop (i + 1) rows) (omega arith) in
+    let long : length (map f (drop (i + 1) rows)) ≡ m - (i + 1) = length-map (drop (i + 1) rows) f ∙ omega arith in
+    ap (λ (l : List Row). take (i + 1) rows ++ (map f l ++ drop (i + 1 + length (map f l)) rows)) all
+    ∙ ap (λ (l : List Row). take (i + 1) rows ++ (map f (drop (i + 1) rows) ++ l)) (drop_of_length-le rows {i = i + 1 + length (map f (drop (i + 1) rows))} (omega arith))
+    ∙ ap (λ (l : List Row). take (i + 1) rows ++ l) (append-nil (map f (drop (i + 1) rows)))
+
+pub then_below : {a b c : Area} {rows : List Row} (col rank : ℕ) → rank < b.m → Holds a rows b → Holds b (cleared_rows col (col / 64) rank (rank + 1) b.m (rows_in b)) c
+    → Holds a (clear_below col rank rows) c
+then_below {a} {b} col rank h p q =
+    holds_then (clear_below col rank) p (holds_as (cleared_below col rank b.m (rows_in b) h (rows_count b)) q)

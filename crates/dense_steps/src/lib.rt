@@ -1,19 +1,23 @@
 // Rows of one area that change places or are XORed, each from a word on, that word included.
 #![tactic(auto)]
 
-ghost use Rattle.std.specs.Prelude.{◌≡◌, ◌≢◌, ◌⊎◌, ◌+◌, ◌*◌, ◌/◌, ◌≤◌, ◌<◌, length, set, get_or};
+ghost use Rattle.std.specs.Prelude.{◌≡◌, ◌≢◌, ◌⊎◌, ◌+◌, ◌/◌, ◌*◌, ◌≤◌, ◌<◌, length, set, get_or};
 ghost use Rattle.areas.specs.Stretch.{stretch, put};
 ghost use Rattle.dense_rows.specs.Bits.{xor_words};
-ghost use Rattle.dense_rows.specs.Rows.{held, Became};
+ghost use Rattle.dense_rows.specs.Areas.{rows_in, Holds};
 ghost use Rattle.dense_rows.specs.Steps.{no_row, swap_rows, xor_from, clear_below};
+ghost use Rattle.dense_steps.specs.Clearing.{cleared_rows};
+
+use dense_rows::Area;
 
 // Rows `i` and `j` change places from the word on, and their constants.
-pub fn swap_rows(words: &mut [u64], m: usize, w: usize, word: usize, i: usize, j: usize)
-    requires { (word ≤ w) × (i < j) × (j < m) × (m * w + m ≤ length words.old) }
-    ensures { Became m w words.old (swap_rows word i j (held m w words.old)) words.new }
+pub fn swap_rows(area: &mut Area, word: usize, i: usize, j: usize)
+    requires { (word ≤ area.old.w) × (i < j) × (j < area.old.m) }
+    ensures { Holds area.old (swap_rows word i j (rows_in area.old)) area.new }
 {
-    areas::exchange(words, i * w + word, j * w + word, w - word);
-    areas::exchange(words, m * w + i, m * w + j, 1);
+    let Area { m, w, .. } = *area;
+    areas::exchange(area.words, i * w + word, j * w + word, w - word);
+    areas::exchange(area.words, m * w + i, m * w + j, 1);
 }
 
 // XORs the `n` words from index `from` on into those from index `to` on, which lie past them or before them.
@@ -21,44 +25,40 @@ pub fn xor_words(words: &mut [u64], from: usize, to: usize, n: usize)
     requires { ((from + n ≤ to) ⊎ (to + n ≤ from)) × (from + n ≤ length words.old) × (to + n ≤ length words.old) }
     ensures { words.new ≡ put to (xor_words (stretch to n words.old) (stretch from n words.old)) words.old }
 {
-    let mut k = 0;
-    while k < n {
+    for k in 0..n {
         words[to + k] ^= words[from + k];
-        k += 1;
     }
 }
 
 // Row `i` is XORed into row `j`, another one, from the word on, and its constant.
-pub fn xor_row(words: &mut [u64], m: usize, w: usize, word: usize, i: usize, j: usize)
-    requires { (word ≤ w) × (i < m) × (j < m) × (i ≢ j) × (m * w + m ≤ length words.old) }
-    ensures { Became m w words.old (set (held m w words.old) j (xor_from word (get_or (held m w words.old) i no_row) (get_or (held m w words.old) j no_row))) words.new }
+pub fn xor_row(area: &mut Area, word: usize, i: usize, j: usize)
+    requires { (word ≤ area.old.w) × (i < area.old.m) × (j < area.old.m) × (i ≢ j) }
+    ensures { Holds area.old (set (rows_in area.old) j (xor_from word (get_or (rows_in area.old) i no_row) (get_or (rows_in area.old) j no_row))) area.new }
 {
-    xor_words(words, i * w + word, j * w + word, w - word);
-    xor_words(words, m * w + i, m * w + j, 1);
+    let Area { m, w, .. } = *area;
+    xor_words(area.words, i * w + word, j * w + word, w - word);
+    xor_words(area.words, m * w + i, m * w + j, 1);
 }
 
-// Each row below the pivot row that has the column gets the pivot row.
-pub fn clear_below(words: &mut [u64], m: usize, w: usize, col: usize, rank: usize)
-    requires { (rank < m) × (col < 64 * w) × (m * w + m ≤ length words.old) }
-    ensures { Became m w words.old (clear_below col rank (held m w words.old)) words.new }
+// Each row from row `from` up to row `to` that has the column gets the pivot row, which is none of them, from the word on.
+pub fn clear_rows(area: &mut Area, col: usize, word: usize, pivot: usize, from: usize, to: usize)
+    requires { (col < 64 * area.old.w) × (word ≤ area.old.w) × (pivot < area.old.m) × (from ≤ to) × (to ≤ area.old.m) × ((pivot < from) ⊎ (to ≤ pivot)) }
+    ensures { Holds area.old (cleared_rows col word pivot from to (rows_in area.old)) area.new }
 {
-    let word = col / 64;
-    let bit = 1u64 << (col % 64);
-    for i in rank + 1..m {
-        if words[i * w + word] & bit == 0 {
-            continue;
+    for i in from..to {
+        if area.has(col, i) {
+            xor_row(area, word, pivot, i);
         }
-        xor_row(words, m, w, word, rank, i);
     }
 }
 
 // The pivot row changes places with the row at the rank, and is cleared from the rows below.
-pub fn take_pivot(words: &mut [u64], m: usize, w: usize, col: usize, rank: usize, pivot: usize)
-    requires { (rank ≤ pivot) × (pivot < m) × (col < 64 * w) × (m * w + m ≤ length words.old) }
-    ensures { Became m w words.old (clear_below col rank (swap_rows (col / 64) rank pivot (held m w words.old))) words.new }
+pub fn take_pivot(area: &mut Area, col: usize, rank: usize, pivot: usize)
+    requires { (rank ≤ pivot) × (pivot < area.old.m) × (col < 64 * area.old.w) }
+    ensures { Holds area.old (clear_below col rank (swap_rows (col / 64) rank pivot (rows_in area.old))) area.new }
 {
     if pivot != rank {
-        swap_rows(words, m, w, col / 64, rank, pivot);
+        swap_rows(area, col / 64, rank, pivot);
     }
-    clear_below(words, m, w, col, rank);
+    clear_rows(area, col, col / 64, rank, rank + 1, area.m);
 }

@@ -1,20 +1,17 @@
--- The rules 1 to 3 of a dense system, exactly: they are kept where and only where it fits, 3 names the lowest row that has a bit at column n or above,
--- and what lies past the first m rows and constants is not read.
-use mathlib.Core.Path.{◌≡◌, refl, ap, ap₂, subst}
+-- The rules 1 to 3 of a dense system, exactly: they are kept where and only where it fits, and 3 names the lowest row that has a bit at column n or above.
+use mathlib.Core.Path.{◌≡◌, refl, ap, subst}
 use mathlib.Core.Logic.{◌↔◌}
-use mathlib.Core.List.{List, ◌∷◌, ◌++◌}
+use mathlib.Core.List.{List}
 use mathlib.Core.Bool.{Bool, true, false, ◌&&◌, false≢true}
-use Prim.Native.Nat.{ℕ, zero, suc, ◌+◌, ◌-◌, ◌*◌, ◌^◌, ◌<◌, ◌≤◌}
-use native.Mathlib.Nat.{zero-add, sub-zero}
+use Prim.Native.Nat.{ℕ, ◌-◌, ◌*◌, ◌^◌, ◌<◌, ◌≤◌}
+use native.Mathlib.Nat.{sub-zero}
 use native.Mathlib.Omega.{arith}
 use borrow.Author.Tests.{le-leb}
-use lib.ListN.{length, get_or, drop, length-append, get_or-append}
+use lib.ListN.{length, get_or, drop}
 use lib.Dec.{leb, leb→le}
 use Rattle.gf2.proofs.Each.{each_at, each_take, each_drop}
 use Rattle.gf2.proofs.Tests.{true→T}
 use Rattle.areas.specs.Stretch.{stretch}
-use Rattle.areas.proofs.Stretch.{stretch-append_left}
-use Rattle.areas.proofs.Offsets.{row_before}
 use Rattle.answers.specs.Numbers.{number_of}
 use Rattle.answers.specs.Sizes.{max_variables, max_equations, max_row_words}
 use Rattle.answers.specs.Calls.{pick}
@@ -23,14 +20,14 @@ use Rattle.answers.specs.Answers.{TooLarge, BadShape, BadEntry}
 use Rattle.answers.specs.Answers.{Rules}
 use Rattle.answers.specs.Answers.{Kept, Broken}
 use Rattle.dense_rows.specs.Bits.{Row, bit_at, row_fits}
-use Rattle.dense_rows.specs.Rows.{row_at, rows_from, rows_of}
+use Rattle.dense_rows.specs.Rows.{row_at, rows_of}
 use Rattle.dense_rows.specs.Steps.{no_row}
 use Rattle.dense_rows.proofs.StepLaws.{WordSized}
 use Rattle.dense_rows.proofs.Emptiness.{fits_no_bit, unfit_bit, fits_exactly}
 use Rattle.dense_rows.proofs.HeldLaws.{rows_length, row_of, rows_each}
-use Rattle.dense.specs.Call.{row_rules, dense_rules, dense_call}
-use Rattle.dense.specs.Fits.{DenseFits}
-use Rattle.dense.proofs.RowRules.{rules_fit, fit_rules, rules_lowest}
+use Rattle.dense_rows.specs.Rules.{row_rules, dense_rules}
+use Rattle.dense_rows.specs.Fits.{DenseFits}
+use Rattle.dense_rows.proofs.RowRules.{rules_fit, fit_rules, rules_lowest}
 
 -- ---- the tests
 
@@ -113,25 +110,3 @@ module _ (n m w : ℕ) (rows constants : List ℕ) where
       row j h b q =
           subst (λ (s : Row). row_fits n s.words ≡ b) (row_of m w rows constants j h)
           (subst (λ (k : ℕ). row_fits n (get_or (rows_of m w rows constants) k no_row).words ≡ b) (sub-zero j) q)
-
--- ---- the slack
-
-same_rows : (k w i m : ℕ) (rows more constants others : List ℕ) → i + k ≡ m → m * w ≤ length rows → m ≤ length constants
-    → rows_from k w i (rows ++ more) (constants ++ others) ≡ rows_from k w i rows constants
-unfolding rows_from row_at
-same_rows zero w i m rows more constants others e hr hc = refl
-same_rows (suc k) w i m rows more constants others e hr hc =
-    let b = row_before i m w (omega arith) in
-    let first : row_at w i (rows ++ more) (constants ++ others) ≡ row_at w i rows constants =
-    ap₂ (λ (l : List ℕ) (d : ℕ). record { words = l; c = d }) (stretch-append_left (i * w) w rows more (omega arith)) (get_or-append constants others 0 i (omega arith)) in
-    ap₂ (λ (r : Row) (l : List Row). r ∷ l) first (same_rows k w (suc i) m rows more constants others (omega arith) hr hc)
-
--- words and constants past the first m rows change nothing: neither the answer nor a lent cell
-pub slack_unread : (n m w : ℕ) (rows more constants others solution numbers words : List ℕ) → m * w ≤ length rows → m ≤ length constants
-    → dense_call n m w (rows ++ more) (constants ++ others) solution numbers words ≡ dense_call n m w rows constants solution numbers words
-unfolding dense_call dense_rules
-slack_unread n m w rows more constants others solution numbers words hr hc =
-    let lr = length-append rows more in
-    let lc = length-append constants others in
-    let e = same_rows m w 0 m rows more constants others (zero-add m) hr hc in
-    rw (e, le-leb (m * w) (length rows) hr, le-leb m (length constants) hc, le-leb (m * w) (length (rows ++ more)) (omega arith), le-leb m (length (constants ++ others)) (omega arith))

@@ -1,21 +1,22 @@
--- The rows' rule: what it says of rows that keep it and of the lowest that does not, and the loop that looks for that one.
+-- The rows' rule: what it says of rows that keep it and of the lowest that does not, and what a search for that one comes to.
 use mathlib.Core.Path.{◌≡◌, refl, sym, ap, ◌∙◌, subst}
 use mathlib.Core.List.{List, [], ◌∷◌}
 use mathlib.Core.Bool.{Bool, true, false}
 use Prim.Native.Nat.{ℕ, zero, suc, ◌+◌, ◌-◌, ◌*◌, ◌<◌, ◌≤◌}
-use native.Mathlib.Numerals.{add-one}
+use native.Mathlib.Nat.{le_refl}
 use native.Mathlib.Omega.{arith}
-use lib.ListN.{length, get_or}
+use lib.ListN.{length, get_or, take, drop, drop_of_length-le}
+use lib.Seq.{drop-cons}
+use Rattle.std.specs.Prelude.{Option, Some, None, MatchOption}
 use Rattle.gf2.specs.Equation.{Each}
-use Rattle.areas.specs.Stretch.{stretch}
-use Rattle.areas.proofs.Offsets.{row_before}
 use Rattle.answers.specs.Answers.{BadEntry}
 use Rattle.answers.specs.Answers.{Rules}
 use Rattle.answers.specs.Answers.{Kept, Broken}
 use Rattle.dense_rows.specs.Bits.{Row, row_fits}
-use Rattle.dense_rows.specs.Rows.{row_at, rows_from, rows_of}
+use Rattle.dense_rows.specs.Rows.{rows_of}
 use Rattle.dense_rows.specs.Steps.{no_row}
-use Rattle.dense.specs.Call.{row_rules}
+use Rattle.dense_rows.proofs.HeldLaws.{rows_length, row_lent}
+use Rattle.dense_rows.specs.Rules.{row_rules, entry_rules}
 
 -- the cases
 rules_kept : (n i : ℕ) (row : Row) (rows : List Row) → row_fits n row.words ≡ true → row_rules n i (row ∷ rows) ≡ row_rules n (suc i) rows
@@ -25,18 +26,6 @@ rules_kept n i row rows e = rw (e, row_rules)
 rules_broken : (n i : ℕ) (row : Row) (rows : List Row) → row_fits n row.words ≡ false → row_rules n i (row ∷ rows) ≡ Broken (BadEntry i)
 unfolding row_rules
 rules_broken n i row rows e = rw (e, row_rules)
-
--- the constants do not matter
-pub rules_any : (n k w i j : ℕ) (words constants other : List ℕ) → row_rules n j (rows_from k w i words constants) ≡ row_rules n j (rows_from k w i words other)
-unfolding row_rules rows_from row_at
-rules_any n zero w i j words constants other = refl
-rules_any n (suc k) w i j words constants other = go (row_fits n (stretch (i * w) w words)) (rules_any n k w (suc i) (suc j) words constants other)
-  where
-    go : (b : Bool) → row_rules n (suc j) (rows_from k w (suc i) words constants) ≡ row_rules n (suc j) (rows_from k w (suc i) words other)
-        → ◌≡◌ {A = Rules} (elim b [ true ↦ row_rules n (suc j) (rows_from k w (suc i) words constants) | false ↦ Broken (BadEntry j) ])
-        (elim b [ true ↦ row_rules n (suc j) (rows_from k w (suc i) words other) | false ↦ Broken (BadEntry j) ])
-    go true ih = ih
-    go false ih = refl
 
 -- rows that keep the rules fit
 pub rules_fit : (n i : ℕ) (rows : List Row) → row_rules n i rows ≡ Kept → Each (λ row. row_fits n row.words ≡ true) rows
@@ -85,40 +74,38 @@ rules_lowest n i j (row ∷ rows) e = go (row_fits n row.words) refl e (rules_lo
         let z : j - i ≡ 0 = omega arith in
         record { from = omega arith; there = omega arith; bad = rw z f; good = λ k h g. absurd (omega arith) }
 
--- ---- the loop
+-- ---- a search for the lowest row that does not fit
 
-pub record Checking (n m w : ℕ) (rows : List ℕ) (i : ℕ) : Type 0 where
-  pub room : m * w ≤ length rows
-  pub below : i ≤ m
-  pub same : row_rules n 0 (rows_of m w rows []) ≡ row_rules n i (rows_from (m - i) w i rows [])
+module _ (n m : ℕ) (rows : List Row) (count : length rows ≡ m) where
+  -- the rows before row i fit
+  fitting_to : (i : ℕ) → i ≤ m → ((j : ℕ) → j < i → row_fits n (get_or rows j no_row).words ≡ true) → row_rules n 0 rows ≡ row_rules n i (drop i rows)
+  fitting_to zero h f = refl
+  fitting_to (suc i) h f =
+      fitting_to i (omega arith) (λ j l. f j (omega arith)) ∙ ap (row_rules n i) (drop-cons rows i no_row (omega arith))
+      ∙ rules_kept n i (get_or rows i no_row) (drop (suc i) rows) (f i (omega arith))
 
-pub checking_begin : {n m w : ℕ} {rows : List ℕ} → m * w ≤ length rows → Checking n m w rows 0
-checking_begin {n} {m} {w} {rows} h =
-    let z : m - 0 ≡ m = omega arith in
-    record { room = h; below = omega arith; same = sym (ap (λ (k : ℕ). row_rules n 0 (rows_from k w 0 rows [])) z) }
+  searched_rules : (o : Option ℕ)
+      → MatchOption o ((j : ℕ) → j < m → row_fits n (get_or rows j no_row).words ≡ true)
+      (λ i. (i < m) × (row_fits n (get_or rows i no_row).words ≡ false) × ((j : ℕ) → j < i → row_fits n (get_or rows j no_row).words ≡ true))
+      → entry_rules o ≡ row_rules n 0 rows
+  unfolding row_rules
+  searched_rules None f = sym (fitting_to m (le_refl m) f ∙ ap (row_rules n m) (drop_of_length-le rows {i = m} (omega arith)))
+  searched_rules (Some i) f =
+      sym (fitting_to i (omega (arith, f.0)) f.2 ∙ ap (row_rules n i) (drop-cons rows i no_row (omega (arith, f.0)))
+      ∙ rules_broken n i (get_or rows i no_row) (drop (suc i) rows) f.1)
 
-module _ {n m w : ℕ} {rows : List ℕ} {i : ℕ} (s : Checking n m w rows i) where
-  pub checking_row : i < m → i * w + w ≤ length rows
-  checking_row h = let b = row_before i m w h in let r = s.room in omega arith
+-- .. in words that are lent
+module _ (n m w : ℕ) (words constants : List ℕ) where
+  abbrev Fits : Bool → ℕ → Type 0
+  Fits b i = row_fits n (take (i * w + w - i * w) (drop (i * w) words)) ≡ b
 
-  next_row : i < m → rows_from (m - i) w i rows [] ≡ row_at w i rows [] ∷ rows_from (m - (i + 1)) w (suc i) rows []
-  unfolding rows_from
-  next_row h = let e : m - i ≡ suc (m - (i + 1)) = omega arith in ap (λ (k : ℕ). rows_from k w i rows []) e
+  row : (b : Bool) (i : ℕ) → i < m → Fits b i → row_fits n (get_or (rows_of m w words constants) i no_row).words ≡ b
+  row b i h f = ap (row_fits n) (row_lent m w words constants i h) ∙ f
 
-  pub checking_found : i < m → row_fits n (stretch (i * w) w rows) ≡ false → Broken (BadEntry i) ≡ row_rules n 0 (rows_of m w rows [])
-  unfolding row_at
-  checking_found h e = sym (s.same ∙ ap (row_rules n i) (next_row h) ∙ rules_broken n i (row_at w i rows []) (rows_from (m - (i + 1)) w (suc i) rows []) e)
-
-  pub checking_turn : i < m → row_fits n (stretch (i * w) w rows) ≡ true → Checking n m w rows (i + 1)
-  unfolding row_at
-  checking_turn h e = record {
-    room = s.room;
-    below = omega arith;
-    same =
-        s.same ∙ ap (row_rules n i) (next_row h) ∙ rules_kept n i (row_at w i rows []) (rows_from (m - (i + 1)) w (suc i) rows []) e
-        ∙ ap (λ (k : ℕ). row_rules n k (rows_from (m - (i + 1)) w k rows [])) (sym (add-one i));
-  }
-
-  pub checking_end : m ≤ i → Kept ≡ row_rules n 0 (rows_of m w rows [])
-  unfolding row_rules rows_from
-  checking_end h = let z : m - i ≡ 0 = omega arith in sym (s.same ∙ ap (λ (k : ℕ). row_rules n i (rows_from k w i rows [])) z)
+  pub searched_rows : (o : Option ℕ) → MatchOption o ((j : ℕ) → 0 ≤ j → j < m → Fits true j) (λ i. (0 ≤ i) × (i < m) × Fits false i × ((j : ℕ) → 0 ≤ j → j < i → Fits true j))
+      → entry_rules o ≡ row_rules n 0 (rows_of m w words constants)
+  searched_rows None f =
+      searched_rules n m (rows_of m w words constants) (rows_length m w 0 words constants) None (λ j l. row true j l (f j (omega arith) l))
+  searched_rows (Some i) f =
+      searched_rules n m (rows_of m w words constants) (rows_length m w 0 words constants) (Some i)
+      (f.1, row false i f.1 f.2, λ j l. row true j (omega (arith, f.1)) (f.3 j (omega arith) l))
