@@ -11,13 +11,15 @@ use lib.Bits.{bit_xor}
 use Rattle.gf2.specs.Equation.{Each, Rising, eval_vars}
 use Rattle.gf2.proofs.Each.{each_at}
 use Rattle.gf2.proofs.EachMap.{each_back}
-use Rattle.areas.specs.Stretch.{stretch}
-use Rattle.areas.proofs.Offsets.{row_before}
+use Rattle.answers.specs.Sizes.{max_row_words}
 use Rattle.dense_rows.specs.Bits.{Row, Clear, columns_from, columns}
-use Rattle.dense_rows.specs.Rows.{row_at, held}
 use Rattle.dense_rows.specs.Steps.{no_row}
 use Rattle.dense_rows.proofs.ColumnLaws.{columns_from_add, columns_from_none, columns_below, rising_columns}
-use Rattle.dense_rows.proofs.HeldLaws.{rows_length, row_of, held_constant}
+use Rattle.dense_rows.specs.Areas.{rows_in}
+use Rattle.dense_rows.specs.declared.area.Area.{Area}
+use Rattle.dense_rows.proofs.StepLaws.{Wide}
+use Rattle.dense_rows.proofs.HeldLaws.{rows_wide}
+use Rattle.dense_rows.proofs.Holding.{rows_count}
 use Rattle.dense_rows.proofs.SetBits.{onward}
 use Rattle.dense_walk.specs.Eliminate.{pin, back_sub}
 use Rattle.dense_walk.specs.Stairs.{Stairs, Ready}
@@ -59,111 +61,84 @@ back_step n ps rows x i h l = ap₂ (λ (a : List ℕ) (b : List Row). back_sub 
 
 -- ---- the loop
 
-pub record Backing (words : List ℕ) (m w : ℕ) (numbers : List ℕ) (rank : ℕ) (x₀ : List ℕ) (i : ℕ) (x : List ℕ) : Type 0 where
-  pub ranked : rank ≤ m
-  pub numbered : rank ≤ length numbers
-  pub room : m * w + m ≤ length words
-  pub ready : Ready (length x₀) w (take rank numbers) (take rank (held m w words))
-  pub below : i ≤ rank
+pub record Backing (a : Area) (ps x₀ : List ℕ) (i : ℕ) (x : List ℕ) : Type 0 where
   pub long : length x ≡ length x₀
-  pub so_far : x ≡ back_sub (length x₀) (drop i (take rank numbers)) (drop i (take rank (held m w words))) x₀
+  pub so_far : x ≡ back_sub (length x₀) (drop i ps) (drop i (take (length ps) (rows_in a))) x₀
 
-pub backing_begin : {words : List ℕ} {m w : ℕ} {numbers : List ℕ} {rank : ℕ} {x : List ℕ} → rank ≤ m → rank ≤ length numbers → m * w + m ≤ length words
-    → Ready (length x) w (take rank numbers) (take rank (held m w words)) → Backing words m w numbers rank x rank x
+pub backing_begin : (a : Area) (ps x : List ℕ) → Backing a ps x (length ps) x
 unfolding back_sub
-backing_begin {words} {m} {w} {numbers} {rank} {x} hm hn room ready =
-    let e : drop rank (take rank numbers) ≡ [] = drop_of_length-le (take rank numbers) {i = rank} (rw (length-take-le rank numbers hn) (le_refl rank)) in
-    record {
-      ranked = hm;
-      numbered = hn;
-      room = room;
-      ready = ready;
-      below = le_refl rank;
-      long = refl;
-      so_far = sym (ap (λ (l : List ℕ). back_sub (length x) l (drop rank (take rank (held m w words))) x) e);
-    }
+backing_begin a ps x =
+    let e : drop (length ps) ps ≡ [] = drop_of_length-le ps {i = length ps} (le_refl (length ps)) in
+    record { long = refl; so_far = sym (ap (λ (l : List ℕ). back_sub (length x) l (drop (length ps) (take (length ps) (rows_in a))) x) e) }
 
-module _ {words : List ℕ} {m w : ℕ} {numbers : List ℕ} {rank : ℕ} {x₀ : List ℕ} {i : ℕ} {x : List ℕ} (s : Backing words m w numbers rank x₀ i x) (j : ℕ) (h : j + 1 ≡ i) where
+module _ {a : Area} {ps x₀ : List ℕ} {i : ℕ} {x : List ℕ} (s : Backing a ps x₀ i x) (ranked : length ps ≤ a.m) (ready : Ready (length x₀) a.w ps (take (length ps) (rows_in a))) (j : ℕ)
+    (h : j + 1 ≡ i) (below : i ≤ length ps) where
   row : Row
-  row = get_or (held m w words) j no_row
-
-  in_rank : j < rank
-  in_rank = let b = s.below in omega arith
-
-  in_rows : j < m
-  in_rows = let b = s.below in let r = s.ranked in omega arith
+  row = get_or (rows_in a) j no_row
 
   -- the pivot is a cell, and its row has no column before it
   abbrev Here : Type 0
-  Here = (get_or numbers j 0 < length x₀) × Clear (get_or numbers j 0) row.words
+  Here = (get_or ps j 0 < length x₀) × Clear (get_or ps j 0) row.words
 
   here : Here
   unfolding row
   here =
-      let k = in_rank in
-      let l = length-take-le rank numbers s.numbered in
-      let t = stairs_at (length x₀) 0 (take rank numbers) (take rank (held m w words)) j (omega arith) s.ready.stairs in
-      rw (get_or-take rank numbers j 0 k, get_or-take rank (held m w words) j no_row k) at t
+      let k : j < length ps = omega arith in
+      let t = stairs_at (length x₀) 0 ps (take (length ps) (rows_in a)) j k ready.stairs in
+      rw (get_or-take (length ps) (rows_in a) j no_row k) at t
 
-  fits : Each (λ u. u < length x₀) (columns (64 * w) row.words)
+  fits : Each (λ u. u < length x₀) (columns (64 * a.w) row.words)
   unfolding row
   fits =
-      let k = in_rank in
-      let n = rows_length m w 0 words (drop (m * w) words) in
-      let r = s.ranked in
-      let l = length-take-le rank (held m w words) (omega arith) in
-      rw (get_or-take rank (held m w words) j no_row k) at (each_at (λ q. Each (λ u. u < length x₀) (columns (64 * w) q.words)) (take rank (held m w words)) no_row j (omega arith) s.ready.fits)
+      let k : j < length ps = omega arith in
+      let n = rows_count a in
+      let l = length-take-le (length ps) (rows_in a) (omega arith) in
+      rw (get_or-take (length ps) (rows_in a) j no_row k) at (each_at (λ q. Each (λ u. u < length x₀) (columns (64 * a.w) q.words)) (take (length ps) (rows_in a)) no_row j (omega arith) ready.fits)
 
-  words_of : row.words ≡ stretch (j * w) w words
-  unfolding row row_at
-  words_of = ap (λ (q : Row). q.words) (row_of m w words (drop (m * w) words) j in_rows)
+  wide : length row.words ≡ a.w
+  unfolding row
+  wide =
+      let n = rows_count a in
+      let r = a.room in
+      each_at (Wide a.w) (rows_in a) no_row j (omega arith) (rows_wide a.m a.w a.words.now (drop (a.m * a.w) a.words.now) (omega arith))
 
-  listed : onward w (get_or numbers j 0 / 64) (stretch (j * w) w words) ≡ columns (length x₀) row.words
-  listed =
-      let t = here in
-      ap (onward w (get_or numbers j 0 / 64)) (sym words_of) ∙ onward_columns (length x₀) w (get_or numbers j 0) row.words s.ready.wide_enough t.0 t.1 fits
+  -- the words of the row, as they are read
+  module _ (words : List ℕ) (e : words ≡ (get_or (rows_in a) j no_row).words) where
+    abbrev Onward : List ℕ
+    Onward = onward (length words) (get_or ps j 0 / 64) words
 
-  pub backing_pivot : get_or numbers j 0 < length x
+    listed : Onward ≡ columns (length x₀) row.words
+    unfolding row
+    listed =
+        let t = here in
+        rw e (ap (λ (w : ℕ). onward w (get_or ps j 0 / 64) row.words) wide ∙ onward_columns (length x₀) a.w (get_or ps j 0) row.words ready.wide_enough t.0 t.1 fits)
+
+    pub backing_row : a.w ≤ max_row_words → (get_or ps j 0 / 64 ≤ length words) × (length words ≤ max_row_words) × Each (λ u. u < length x) Onward
+    unfolding row
+    backing_row f =
+        let t = here in
+        let w = wide in
+        let l = ready.wide_enough in
+        let n = ap length e in
+        (omega arith, omega arith, rw (s.long, listed) (columns_below (length x₀) row.words))
+
+    pub backing_turn : {c v : ℕ} → c ≡ (get_or (rows_in a) j no_row).c → v ≡ eval_vars Onward x → Backing a ps x₀ j (set x (get_or ps j 0) (bit_xor c v))
+    unfolding row pin
+    backing_turn {c} {v} f g =
+        let k : j < length ps = omega arith in
+        let n = rows_count a in
+        let l = length-take-le (length ps) (rows_in a) (omega arith) in
+        let y : List ℕ = back_sub (length x₀) (drop (suc j) ps) (drop (suc j) (take (length ps) (rows_in a))) x₀ in
+        let step : suc j ≡ i = sym (add-one j) ∙ h in
+        let old : x ≡ y = s.so_far ∙ ap (λ (k : ℕ). back_sub (length x₀) (drop k ps) (drop k (take (length ps) (rows_in a))) x₀) (sym step) in
+        record {
+          long = simp length-set s.long;
+          so_far =
+              ap₂ (λ (a b : ℕ). set x (get_or ps j 0) (bit_xor a b)) f (g ∙ ap (λ (l : List ℕ). eval_vars l x) listed)
+              ∙ ap (λ (z : List ℕ). set z (get_or ps j 0) (bit_xor row.c (eval_vars (columns (length x₀) row.words) z))) old
+              ∙ sym (back_step (length x₀) ps (take (length ps) (rows_in a)) x₀ j k (omega arith)
+              ∙ ap (λ (q : Row). pin (length x₀) (get_or ps j 0) q y) (get_or-take (length ps) (rows_in a) j no_row k));
+        }
+
+  pub backing_pivot : get_or ps j 0 < length x
   backing_pivot = let t = here in let l = s.long in omega arith
-
-  pub backing_word : get_or numbers j 0 / 64 ≤ w
-  backing_word = let t = here in let l = s.ready.wide_enough in omega arith
-
-  pub backing_row : j * w + w ≤ length words
-  backing_row = let b = row_before j m w in_rows in let r = s.room in omega arith
-
-  pub backing_constant : m * w + j < length words
-  backing_constant = let k = in_rows in let r = s.room in omega arith
-
-  pub backing_listed : Each (λ u. u < length x) (onward w (get_or numbers j 0 / 64) (stretch (j * w) w words))
-  backing_listed = rw (s.long, listed) (columns_below (length x₀) row.words)
-
-  pub backing_turn : {v : ℕ} → v ≡ eval_vars (onward w (get_or numbers j 0 / 64) (stretch (j * w) w words)) x
-      → Backing words m w numbers rank x₀ j (set x (get_or numbers j 0) (bit_xor (get_or words (m * w + j) 0) v))
-  unfolding row pin
-  backing_turn {v} e =
-      let k = in_rank in
-      let n = rows_length m w 0 words (drop (m * w) words) in
-      let r = s.ranked in
-      let lr = length-take-le rank (held m w words) (omega arith) in
-      let ln = length-take-le rank numbers s.numbered in
-      let y : List ℕ = back_sub (length x₀) (drop (suc j) (take rank numbers)) (drop (suc j) (take rank (held m w words))) x₀ in
-      let step : suc j ≡ i = sym (add-one j) ∙ h in
-      let old : x ≡ y = s.so_far ∙ ap (λ (k : ℕ). back_sub (length x₀) (drop k (take rank numbers)) (drop k (take rank (held m w words))) x₀) (sym step) in
-      record {
-        ranked = s.ranked;
-        numbered = s.numbered;
-        room = s.room;
-        ready = s.ready;
-        below = omega arith;
-        long = simp length-set s.long;
-        so_far =
-            ap₂ (λ (a b : ℕ). set x (get_or numbers j 0) (bit_xor a b)) (sym (held_constant m w words s.room j in_rows)) (e ∙ ap (λ (l : List ℕ). eval_vars l x) listed)
-            ∙ ap (λ (z : List ℕ). set z (get_or numbers j 0) (bit_xor row.c (eval_vars (columns (length x₀) row.words) z))) old
-            ∙ sym (back_step (length x₀) (take rank numbers) (take rank (held m w words)) x₀ j (omega arith) (omega arith)
-            ∙ ap₂ (λ (p : ℕ) (q : Row). pin (length x₀) p q y) (get_or-take rank numbers j 0 k) (get_or-take rank (held m w words) j no_row k));
-      }
-
-pub backing_end : {words : List ℕ} {m w : ℕ} {numbers : List ℕ} {rank : ℕ} {x₀ : List ℕ} {i : ℕ} {x : List ℕ} → Backing words m w numbers rank x₀ i x → i ≤ 0
-    → x ≡ back_sub (length x₀) (take rank numbers) (take rank (held m w words)) x₀
-backing_end {i = i} s h = let z : i ≡ 0 = omega arith in rw z at s.so_far

@@ -11,8 +11,7 @@ use Rattle.gf2.proofs.Each.{each_at, each_map, each_set}
 use Rattle.gf2.proofs.EachMap.{each_of_map, each_from_map, each_unset, each_both}
 use Rattle.dense_rows.specs.Bits.{Row, Clear, has_bit, equation_of}
 use Rattle.dense_rows.specs.Steps.{pivot_from, from_word, no_row, swap_rows, xor_from, clear_row}
-use Rattle.dense_rows.specs.declared.Pivot.{Pivot}
-use Rattle.dense_rows.specs.declared.Pivot.TheVariants.{At, Nowhere}
+use Rattle.std.specs.Prelude.{Option, Some, None}
 use Rattle.dense_rows.proofs.ColumnLaws.{clear_next}
 use Rattle.dense_rows.proofs.SearchLaws.{Found, at, nowhere, found}
 use Rattle.dense_rows.proofs.StepLaws.{Wide, wide_from_word, wide_xor_from, equation_from_word, equation_xor_from, has_bit-from_word, has_bit-xor_from, clear_row_cases}
@@ -44,7 +43,7 @@ stepped c rest = go rest (pivot_from c 0 rest) (found c 0 rest)
         let l : j < length below = omega arith in
         subst (λ (i : ℕ). Stepped c (a ∷ below) (topped c (swap_rows (c / 64) 0 i (a ∷ below)))) (sym e) (later j l p)
 
-    go : (rest : List Row) (o : Pivot) → Found c 0 rest o → Stepped c rest (elim o [ At r ↦ topped c (swap_rows (c / 64) 0 r rest) | Nowhere ↦ passed ])
+    go : (rest : List Row) (o : Option ℕ) → Found c 0 rest o → Stepped c rest (elim o [ Some r ↦ topped c (swap_rows (c / 64) 0 r rest) | None ↦ passed ])
     go rest o (at j h p {r = r} e) = top rest j r (omega arith) h p
     go rest o (nowhere f) = pass f
 

@@ -9,8 +9,7 @@ use lib.ListN.{length, get_or, set, take, drop, length-set}
 use lib.Seq.{drop-cons, take-suc, take-set-le, drop-set-add, get_or-drop, take_at, drop_at, length-take-le}
 use Rattle.dense_rows.specs.Bits.{Row}
 use Rattle.dense_rows.specs.Steps.{pivot_from, from_word, no_row, swap_rows, clear_row, clear_below}
-use Rattle.dense_rows.specs.declared.Pivot.{Pivot}
-use Rattle.dense_rows.specs.declared.Pivot.TheVariants.{At, Nowhere}
+use Rattle.std.specs.Prelude.{Option, Some, None}
 use Rattle.dense_rows.proofs.SearchLaws.{Found, at, nowhere, found, moved, pivot_moved}
 use Rattle.dense_walk.specs.Eliminate.{passed, taken, topped, column}
 
@@ -20,36 +19,36 @@ use Rattle.dense_walk.specs.Eliminate.{passed, taken, topped, column}
 from_zero : (c b : ℕ) (rest : List Row) → pivot_from c b rest ≡ moved b (pivot_from c 0 rest)
 from_zero c b rest = ap (λ (i : ℕ). pivot_from c i rest) (sym (add-zero b)) ∙ pivot_moved c b 0 rest
 
-nowhere_from : (c b : ℕ) (rest : List Row) → pivot_from c b rest ≡ Nowhere → pivot_from c 0 rest ≡ Nowhere
+nowhere_from : (c b : ℕ) (rest : List Row) → pivot_from c b rest ≡ None → pivot_from c 0 rest ≡ None
 nowhere_from c b rest e = go (pivot_from c 0 rest) (sym (from_zero c b rest) ∙ e)
   where
-    go : (o : Pivot) → moved b o ≡ Nowhere → o ≡ Nowhere
-    go (At r) q = absurd (let z : ◌≡◌ {A = ℕ} 0 1 = cc in omega arith)
-    go Nowhere q = refl
+    go : (o : Option ℕ) → moved b o ≡ None → o ≡ None
+    go (Some r) q = absurd (let z : ◌≡◌ {A = ℕ} 0 1 = cc in omega arith)
+    go None q = refl
 
 -- the pivot's place in the rows from b on
-at_from : (c b : ℕ) (rest : List Row) (r : ℕ) → pivot_from c b rest ≡ At r → (j : ℕ) × (r ≡ b + j) × (j < length rest) × (pivot_from c 0 rest ≡ At j)
+at_from : (c b : ℕ) (rest : List Row) (r : ℕ) → pivot_from c b rest ≡ Some r → (j : ℕ) × (r ≡ b + j) × (j < length rest) × (pivot_from c 0 rest ≡ Some j)
 at_from c b rest r e = go (pivot_from c 0 rest) (found c 0 rest) refl (sym (from_zero c b rest) ∙ e)
   where
-    go : (o : Pivot) → Found c 0 rest o → pivot_from c 0 rest ≡ o → moved b o ≡ At r → (j : ℕ) × (r ≡ b + j) × (j < length rest) × (pivot_from c 0 rest ≡ At j)
+    go : (o : Option ℕ) → Found c 0 rest o → pivot_from c 0 rest ≡ o → moved b o ≡ Some r → (j : ℕ) × (r ≡ b + j) × (j < length rest) × (pivot_from c 0 rest ≡ Some j)
     go o (at i h p {r = s} q) f g = let z : b + s ≡ r = cc in (s, sym z, omega arith, f)
     go o (nowhere n) f g = absurd (let z : ◌≡◌ {A = ℕ} 0 1 = cc in omega arith)
 
-pub pivot_place : (c b : ℕ) (rest : List Row) (r : ℕ) → pivot_from c b rest ≡ At r → (b ≤ r) × (r < b + length rest)
+pub pivot_place : (c b : ℕ) (rest : List Row) (r : ℕ) → pivot_from c b rest ≡ Some r → (b ≤ r) × (r < b + length rest)
 pivot_place c b rest r e = let t = at_from c b rest r e in (omega (arith, t.1), omega (arith, t.1, t.2))
 
 -- ---- no row has the column
 
-column_passed : (c : ℕ) (rest : List Row) → pivot_from c 0 rest ≡ Nowhere → column c rest ≡ passed
+column_passed : (c : ℕ) (rest : List Row) → pivot_from c 0 rest ≡ None → column c rest ≡ passed
 unfolding column
 column_passed c rest e = rw (e, column)
 
-pub column_none : (c b : ℕ) (rest : List Row) → pivot_from c b rest ≡ Nowhere → column c rest ≡ passed
+pub column_none : (c b : ℕ) (rest : List Row) → pivot_from c b rest ≡ None → column c rest ≡ passed
 column_none c b rest e = column_passed c rest (nowhere_from c b rest e)
 
 -- ---- a row has it
 
-column_taken : (c j : ℕ) (rest : List Row) → pivot_from c 0 rest ≡ At j → column c rest ≡ topped c (swap_rows (c / 64) 0 j rest)
+column_taken : (c j : ℕ) (rest : List Row) → pivot_from c 0 rest ≡ Some j → column c rest ≡ topped c (swap_rows (c / 64) 0 j rest)
 unfolding column
 column_taken c j rest e = rw (e, column)
 
@@ -108,7 +107,7 @@ pub record PivotTaken (c b : ℕ) (rows cleared : List Row) : Type 0 where
   pub step : column c (drop b rows) ≡ taken pivot (drop (b + 1) cleared)
   pub tops : take (b + 1) cleared ≡ take b rows ++ (pivot ∷ [])
 
-pub pivot_taken : (c b r : ℕ) (rows : List Row) → b < length rows → pivot_from c b (drop b rows) ≡ At r → PivotTaken c b rows (clear_below c b (swap_rows (c / 64) b r rows))
+pub pivot_taken : (c b r : ℕ) (rows : List Row) → b < length rows → pivot_from c b (drop b rows) ≡ Some r → PivotTaken c b rows (clear_below c b (swap_rows (c / 64) b r rows))
 unfolding swapped after
 pivot_taken c b r rows h e =
     let t = at_from c b (drop b rows) r e in

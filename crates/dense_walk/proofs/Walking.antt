@@ -1,20 +1,23 @@
--- The loop over the columns: what the areas hold so far, and what is left of the walk.
+-- The loop over the columns: what the area and the numbers hold so far, and what is left of the walk.
 use mathlib.Core.Path.{◌≡◌, refl, sym, ap, ap₂, ◌∙◌}
 use mathlib.Core.List.{List, [], ◌∷◌, ◌++◌, append-nil}
 use mathlib.Core.Logic.{◌⊎◌, inl, inr}
-use mathlib.Core.Bool.{true, false}
+use mathlib.Core.Bool.{Bool, true, not, ◌||◌}
+use lib.Dec.{eqb}
 use Prim.Native.Nat.{ℕ, zero, suc, ◌+◌, ◌-◌, ◌*◌, ◌/◌, ◌<◌, ◌≤◌}
 use native.Mathlib.Numerals.{add-one}
 use native.Mathlib.Omega.{arith}
 use lib.ListN.{length, get_or, set, take, drop, length-set, length-drop, drop_of_length-le}
 use lib.Seq.{drop-cons, take-suc-set, drop-set-lt, append_snoc}
+use Rattle.gf2.proofs.Tests.{eqb_ne}
 use Rattle.areas.proofs.Stretch.{drop_agree}
-use Rattle.answers.specs.Sizes.{max_variables}
 use Rattle.dense_rows.specs.Bits.{Row}
-use Rattle.dense_rows.specs.Rows.{held, Became}
 use Rattle.dense_rows.specs.Steps.{pivot_from, no_row, swap_rows, clear_below}
-use Rattle.dense_rows.specs.declared.Pivot.TheVariants.{At, Nowhere}
-use Rattle.dense_rows.proofs.HeldLaws.{rows_length, held_constant}
+use Rattle.std.specs.Prelude.{Some, None}
+use Rattle.std.specs.List.{list_any, range_with_len}
+use Rattle.dense_rows.specs.Areas.{rows_in, SameArea, Holds}
+use Rattle.dense_rows.specs.declared.area.Area.{Area}
+use Rattle.dense_rows.proofs.Holding.{rows_count, same_area, same_then, same_rows, holds_in}
 use Rattle.dense_walk.specs.Eliminate.{passed, taken, column, Walk, on_top, walk, residue}
 use Rattle.dense_walk.specs.Areas.{Eliminated}
 use Rattle.dense_walk.proofs.WalkLaws.{stopped}
@@ -46,46 +49,33 @@ joined ps rs wk = record { pivots = ps ++ wk.pivots; rows = rs ++ wk.rows; left 
 joined_snoc : (ps : List ℕ) (rs : List Row) (c : ℕ) (p : Row) (wk : Walk) → joined ps rs (on_top c p wk) ≡ joined (ps ++ (c ∷ [])) (rs ++ (p ∷ [])) wk
 joined_snoc ps rs c p wk = λ i. record { pivots = sym (append_snoc ps c wk.pivots) i; rows = sym (append_snoc rs p wk.rows) i; left = wk.left }
 
-pub record Walking (n m w : ℕ) (numbers₀ words₀ : List ℕ) (rank col : ℕ) (numbers words : List ℕ) : Type 0 where
-  pub n_fits : n ≤ max_variables
-  pub wide_enough : n ≤ 64 * w
-  pub below : col ≤ n
-  pub ranked : rank ≤ m
-  pub numbers_room : m ≤ length numbers
-  pub words_room : m * w + m ≤ length words
+pub record Walking (n : ℕ) (numbers₀ : List ℕ) (a : Area) (rank col : ℕ) (numbers : List ℕ) (b : Area) : Type 0 where
+  pub same : SameArea a b
+  pub ranked : rank ≤ a.m
   pub numbers_long : length numbers ≡ length numbers₀
   pub numbers_past : drop rank numbers ≡ drop rank numbers₀
-  pub words_long : length words ≡ length words₀
-  pub words_past : drop (m * w + m) words ≡ drop (m * w + m) words₀
-  pub future : walk n 0 (held m w words₀) ≡ joined (take rank numbers) (take rank (held m w words)) (walk (n - col) col (drop rank (held m w words)))
+  pub words_long : length b.words.now ≡ length a.words.now
+  pub words_past : drop (a.m * a.w + a.m) b.words.now ≡ drop (a.m * a.w + a.m) a.words.now
+  pub future : walk n 0 (rows_in a) ≡ joined (take rank numbers) (take rank (rows_in b)) (walk (n - col) col (drop rank (rows_in b)))
 
-pub walking_begin : {n m w : ℕ} {numbers words : List ℕ} → n ≤ max_variables → n ≤ 64 * w → m ≤ length numbers → m * w + m ≤ length words
-    → Walking n m w numbers words 0 0 numbers words
-walking_begin {n} {m} {w} {numbers} {words} hn hw hm h =
+pub walking_begin : (n : ℕ) (numbers : List ℕ) (a : Area) → Walking n numbers a 0 0 numbers a
+walking_begin n numbers a =
     let z : n - 0 ≡ n = omega arith in
     record {
-      n_fits = hn;
-      wide_enough = hw;
-      below = omega arith;
+      same = same_area;
       ranked = omega arith;
-      numbers_room = hm;
-      words_room = h;
       numbers_long = refl;
       numbers_past = refl;
       words_long = refl;
       words_past = refl;
-      future = sym (ap (λ (k : ℕ). walk k 0 (held m w words)) z);
+      future = sym (ap (λ (k : ℕ). walk k 0 (rows_in a)) z);
     }
 
-module _ {n m w : ℕ} {numbers₀ words₀ : List ℕ} {rank col : ℕ} {numbers words : List ℕ} (s : Walking n m w numbers₀ words₀ rank col numbers words) where
-  rows : List Row
-  rows = held m w words
+module _ {n : ℕ} {numbers₀ : List ℕ} {a : Area} {rank col : ℕ} {numbers : List ℕ} {b : Area} (s : Walking n numbers₀ a rank col numbers b) where
+  count : length (rows_in b) ≡ a.m
+  count = rows_count b ∙ s.same.same_m
 
-  count : length rows ≡ m
-  unfolding rows
-  count = rows_length m w 0 words (drop (m * w) words)
-
-  rest_count : rank < m → 0 < length (drop rank rows)
+  rest_count : rank < a.m → 0 < length (drop rank (rows_in b))
   rest_count h = let n = count in simp length-drop (omega arith)
 
   -- the column's index, as the walk counts
@@ -93,145 +83,105 @@ module _ {n m w : ℕ} {numbers₀ words₀ : List ℕ} {rank col : ℕ} {number
   one_less h = omega arith
 
   -- where the search found a row
-  pub walking_place : {pivot : ℕ} → At pivot ≡ pivot_from col rank (drop rank (held m w words)) → (rank ≤ pivot) × (pivot < m)
+  pub walking_place : {pivot : ℕ} → Some pivot ≡ pivot_from col rank (drop rank (rows_in b)) → (rank ≤ pivot) × (pivot < b.m)
   walking_place {pivot} e =
       let r = s.ranked in
-      let l = count in
-      let d = length-drop rank rows in
-      let t = pivot_place col rank (drop rank rows) pivot (unfold rows in sym e) in
+      let m = s.same.same_m in
+      let l = rows_count b in
+      let d = length-drop rank (rows_in b) in
+      let t = pivot_place col rank (drop rank (rows_in b)) pivot (sym e) in
       (t.0, omega (arith, t.1))
 
   -- no row has the column
-  pub walking_skip : col < n → (rank ≡ m → ⊥) → Nowhere ≡ pivot_from col rank (drop rank (held m w words)) → Walking n m w numbers₀ words₀ rank (col + 1) numbers words
-  unfolding rows
+  pub walking_skip : col < n → (rank ≡ b.m → ⊥) → None ≡ pivot_from col rank (drop rank (rows_in b)) → Walking n numbers₀ a rank (col + 1) numbers b
   walking_skip h ne e =
       let r = s.ranked in
-      let none = column_none col rank (drop rank rows) (sym e) in
+      let m = s.same.same_m in
+      let none = column_none col rank (drop rank (rows_in b)) (sym e) in
       record {
-        n_fits = s.n_fits;
-        wide_enough = s.wide_enough;
-        below = omega arith;
+        same = s.same;
         ranked = r;
-        numbers_room = s.numbers_room;
-        words_room = s.words_room;
         numbers_long = s.numbers_long;
         numbers_past = s.numbers_past;
         words_long = s.words_long;
         words_past = s.words_past;
         future =
             s.future
-            ∙ ap (λ (wk : Walk). joined (take rank numbers) (take rank rows) wk)
-            (ap (λ (k : ℕ). walk k col (drop rank rows)) (one_less h) ∙ walk_passed (n - (col + 1)) col (drop rank rows) (rest_count (omega arith)) none
-            ∙ ap (λ (c : ℕ). walk (n - (col + 1)) c (drop rank rows)) (sym (add-one col)));
+            ∙ ap (λ (wk : Walk). joined (take rank numbers) (take rank (rows_in b)) wk)
+            (ap (λ (k : ℕ). walk k col (drop rank (rows_in b))) (one_less h) ∙ walk_passed (n - (col + 1)) col (drop rank (rows_in b)) (rest_count (omega arith)) none
+            ∙ ap (λ (c : ℕ). walk (n - (col + 1)) c (drop rank (rows_in b))) (sym (add-one col)));
       }
 
   -- a pivot's row is brought up and cleared from the rows below
-  pub walking_turn : {pivot : ℕ} {area : List ℕ} → col < n → (rank ≡ m → ⊥) → At pivot ≡ pivot_from col rank (drop rank (held m w words))
-      → Became m w words (clear_below col rank (swap_rows (col / 64) rank pivot (held m w words))) area
-      → Walking n m w numbers₀ words₀ (rank + 1) (col + 1) (set numbers rank col) area
-  unfolding rows
-  walking_turn {pivot} {area} h ne e b =
+  pub walking_turn : {pivot : ℕ} {c : Area} → col < n → (rank ≡ b.m → ⊥) → rank < length numbers → Some pivot ≡ pivot_from col rank (drop rank (rows_in b))
+      → Holds b (clear_below col rank (swap_rows (col / 64) rank pivot (rows_in b))) c
+      → Walking n numbers₀ a (rank + 1) (col + 1) (set numbers rank col) c
+  walking_turn {pivot} {c} h ne f e g =
       let r = s.ranked in
+      let m = s.same.same_m in
       let l = count in
-      let g = s.words_room in
-      let f = s.numbers_room in
-      let t = pivot_taken col rank pivot rows (omega arith) (sym e) in
+      let past = rw (s.same.same_m, s.same.same_w) at g.became.past in
+      let t = pivot_taken col rank pivot (rows_in b) (omega arith) (sym e) in
       let p : Row = t.pivot in
-      let R : List Row = clear_below col rank (swap_rows (col / 64) rank pivot rows) in
+      let R : List Row = clear_below col rank (swap_rows (col / 64) rank pivot (rows_in b)) in
       let pivots : take (rank + 1) (set numbers rank col) ≡ take rank numbers ++ (col ∷ []) =
-      ap (λ (k : ℕ). take k (set numbers rank col)) (add-one rank) ∙ take-suc-set numbers rank col (omega arith) in
-      let onward : walk (n - col) col (drop rank rows) ≡ on_top col p (walk (n - (col + 1)) (col + 1) (drop (rank + 1) R)) =
-      ap (λ (k : ℕ). walk k col (drop rank rows)) (one_less h) ∙ walk_taken (n - (col + 1)) col (drop rank rows) p (drop (rank + 1) R) (rest_count (omega arith)) t.step
-      ∙ ap (λ (c : ℕ). on_top col p (walk (n - (col + 1)) c (drop (rank + 1) R))) (sym (add-one col)) in
+      ap (λ (k : ℕ). take k (set numbers rank col)) (add-one rank) ∙ take-suc-set numbers rank col f in
+      let onward : walk (n - col) col (drop rank (rows_in b)) ≡ on_top col p (walk (n - (col + 1)) (col + 1) (drop (rank + 1) R)) =
+      ap (λ (k : ℕ). walk k col (drop rank (rows_in b))) (one_less h) ∙ walk_taken (n - (col + 1)) col (drop rank (rows_in b)) p (drop (rank + 1) R) (rest_count (omega arith)) t.step
+      ∙ ap (λ (d : ℕ). on_top col p (walk (n - (col + 1)) d (drop (rank + 1) R))) (sym (add-one col)) in
       record {
-        n_fits = s.n_fits;
-        wide_enough = s.wide_enough;
-        below = omega arith;
+        same = same_then s.same g.same;
         ranked = omega arith;
-        numbers_room = simp length-set s.numbers_room;
-        words_room = rw b.long s.words_room;
         numbers_long = length-set numbers rank col ∙ s.numbers_long;
         numbers_past = drop-set-lt (rank + 1) numbers rank col (omega arith) ∙ drop_agree rank (rank + 1) numbers numbers₀ (omega arith) s.numbers_past;
-        words_long = b.long ∙ s.words_long;
-        words_past = b.past ∙ s.words_past;
+        words_long = g.became.long ∙ s.words_long;
+        words_past = past ∙ s.words_past;
         future =
-            s.future ∙ ap (λ (wk : Walk). joined (take rank numbers) (take rank rows) wk) onward
-            ∙ joined_snoc (take rank numbers) (take rank rows) col p (walk (n - (col + 1)) (col + 1) (drop (rank + 1) R))
+            s.future ∙ ap (λ (wk : Walk). joined (take rank numbers) (take rank (rows_in b)) wk) onward
+            ∙ joined_snoc (take rank numbers) (take rank (rows_in b)) col p (walk (n - (col + 1)) (col + 1) (drop (rank + 1) R))
             ∙ ap₂ (λ (x : List ℕ) (y : List Row). joined x y (walk (n - (col + 1)) (col + 1) (drop (rank + 1) R))) (sym pivots) (sym t.tops)
-            ∙ ap (λ (q : List Row). joined (take (rank + 1) (set numbers rank col)) (take (rank + 1) q) (walk (n - (col + 1)) (col + 1) (drop (rank + 1) q))) (sym b.holds);
+            ∙ ap (λ (q : List Row). joined (take (rank + 1) (set numbers rank col)) (take (rank + 1) q) (walk (n - (col + 1)) (col + 1) (drop (rank + 1) q))) (sym (holds_in g));
       }
 
   -- every column is done, or every row has a pivot
-  pub walking_end : (n ≤ col) ⊎ (rank ≡ m) → Eliminated n m w numbers₀ words₀ rank numbers words
-  unfolding rows walk
+  pub walking_end : (n ≤ col) ⊎ (rank ≡ b.m) → Eliminated n a.m a.w numbers₀ a.words.now rank numbers b.words.now
+  unfolding walk
   walking_end o = record {
     ranked = s.ranked;
     pivots = sym (ap (λ (wk : Walk). wk.pivots) ended ∙ append-nil (take rank numbers));
-    rows = sym (ap (λ (wk : Walk). wk.rows) ended ∙ append-nil (take rank rows));
-    left = sym (ap (λ (wk : Walk). wk.left) ended);
+    rows = sym (ap (λ (wk : Walk). wk.rows) ended ∙ append-nil (take rank (rows_in b)) ∙ ap (take rank) (same_rows s.same));
+    left = sym (ap (λ (wk : Walk). wk.left) ended ∙ ap (drop rank) (same_rows s.same));
     numbers_long = s.numbers_long;
     numbers_past = s.numbers_past;
     words_long = s.words_long;
     words_past = s.words_past;
   }
     where
-      stop : (n ≤ col) ⊎ (rank ≡ m) → walk (n - col) col (drop rank rows) ≡ stopped (drop rank rows)
-      stop (inl h) = let z : n - col ≡ 0 = omega arith in ap (λ (k : ℕ). walk k col (drop rank rows)) z
+      stop : (n ≤ col) ⊎ (rank ≡ b.m) → walk (n - col) col (drop rank (rows_in b)) ≡ stopped (drop rank (rows_in b))
+      stop (inl h) = let z : n - col ≡ 0 = omega arith in ap (λ (k : ℕ). walk k col (drop rank (rows_in b))) z
       stop (inr h) =
-          let l = count in
-          let z : drop rank rows ≡ [] = drop_of_length-le rows {i = rank} (omega arith) in
+          let l = rows_count b in
+          let z : drop rank (rows_in b) ≡ [] = drop_of_length-le (rows_in b) {i = rank} (omega arith) in
           ap (walk (n - col) col) z ∙ walk_no_row (n - col) col ∙ ap stopped (sym z)
 
-      ended : walk n 0 (held m w words₀) ≡ joined (take rank numbers) (take rank rows) (stopped (drop rank rows))
-      ended = s.future ∙ ap (λ (wk : Walk). joined (take rank numbers) (take rank rows) wk) (stop o)
+      ended : walk n 0 (rows_in a) ≡ joined (take rank numbers) (take rank (rows_in b)) (stopped (drop rank (rows_in b)))
+      ended = s.future ∙ ap (λ (wk : Walk). joined (take rank numbers) (take rank (rows_in b)) wk) (stop o)
 
--- ---- the loop over the constants that are left
+-- ---- the constants that are left
 
-pub record Leaving (words : List ℕ) (m w rank i : ℕ) : Type 0 where
-  pub room : m * w + m ≤ length words
-  pub below : i ≤ m
-  pub same : residue (drop rank (held m w words)) ≡ residue (drop i (held m w words))
+-- has row i a constant that is not 0?
+abbrev pub constant_set : List Row → ℕ → Bool
+constant_set rows i = not (eqb (get_or rows i no_row).c 0)
 
-pub leaving_begin : {words : List ℕ} {m w rank : ℕ} → rank ≤ m → m * w + m ≤ length words → Leaving words m w rank rank
-leaving_begin h room = record { room = room; below = h; same = refl }
-
-residue_here : (row : Row) (rows : List Row) → (row.c ≡ 0 → ⊥) → residue (row ∷ rows) ≡ true
+-- a look at the rows from the rank on, one by one
+pub residue_any : (rank n : ℕ) (rows : List Row) → rank + n ≡ length rows → list_any (constant_set rows) (range_with_len rank n) ≡ residue (drop rank rows)
 unfolding residue
-residue_here row rows f = go row.c f
+residue_any rank zero rows e = sym (ap residue (drop_of_length-le rows {i = rank} (omega arith)))
+residue_any rank (suc n) rows e =
+    rw (add-one rank) (go (get_or rows rank no_row).c refl (residue_any (suc rank) n rows (omega arith)))
+    ∙ sym (ap residue (drop-cons rows rank no_row (omega arith)))
   where
-    go : (d : ℕ) → (d ≡ 0 → ⊥) → elim d [ zero ↦ residue rows | suc _ ↦ true ] ≡ true
-    go zero g = absurd (g refl)
-    go (suc d) g = refl
-
-residue_later : (row : Row) (rows : List Row) → row.c ≡ 0 → residue (row ∷ rows) ≡ residue rows
-unfolding residue
-residue_later row rows e = go row.c e
-  where
-    go : (d : ℕ) → d ≡ 0 → elim d [ zero ↦ residue rows | suc _ ↦ true ] ≡ residue rows
-    go zero g = refl
-    go (suc d) g = absurd (omega arith)
-
-module _ {words : List ℕ} {m w rank i : ℕ} (s : Leaving words m w rank i) where
-  next_row : i < m → drop i (held m w words) ≡ get_or (held m w words) i no_row ∷ drop (suc i) (held m w words)
-  next_row h = let n = rows_length m w 0 words (drop (m * w) words) in drop-cons (held m w words) i no_row (omega arith)
-
-  pub leaving_found : i < m → (get_or words (m * w + i) 0 ≡ 0 → ⊥) → true ≡ residue (drop rank (held m w words))
-  leaving_found h f =
-      sym (s.same ∙ ap residue (next_row h)
-      ∙ residue_here (get_or (held m w words) i no_row) (drop (suc i) (held m w words)) (λ z. f (sym (held_constant m w words s.room i h) ∙ z)))
-
-  pub leaving_turn : i < m → get_or words (m * w + i) 0 ≡ 0 → Leaving words m w rank (i + 1)
-  leaving_turn h e = record {
-    room = s.room;
-    below = omega arith;
-    same =
-        rw (add-one i) (s.same ∙ ap residue (next_row h)
-        ∙ residue_later (get_or (held m w words) i no_row) (drop (suc i) (held m w words)) (held_constant m w words s.room i h ∙ e));
-  }
-
-  pub leaving_end : m ≤ i → false ≡ residue (drop rank (held m w words))
-  unfolding residue
-  leaving_end h =
-      let n = rows_length m w 0 words (drop (m * w) words) in
-      let e : drop i (held m w words) ≡ [] = drop_of_length-le (held m w words) {i = i} (omega arith) in
-      sym (s.same ∙ ap residue e)
+    go : (d : ℕ) → (get_or rows rank no_row).c ≡ d → list_any (constant_set rows) (range_with_len (suc rank) n) ≡ residue (drop (suc rank) rows)
+        → (not (eqb d 0) || list_any (constant_set rows) (range_with_len (suc rank) n)) ≡ elim d [ zero ↦ residue (drop (suc rank) rows) | suc _ ↦ true ]
+    go zero f ih = ih
+    go (suc d) f ih = ap (λ b. not b || list_any (constant_set rows) (range_with_len (suc rank) n)) (eqb_ne (suc d) 0 (λ z. omega arith))

@@ -1,11 +1,10 @@
 -- Dense elimination on a list of rows: columns left to right, what is left of the constants, and back substitution.
-use Rattle.std.specs.Prelude.{List, [], ◌∷◌, map, Bool, true, false, ℕ, zero, suc, ◌/◌, set, replicate}
+use Rattle.std.specs.Prelude.{Some, None, List, [], ◌∷◌, map, Bool, true, false, ℕ, zero, suc, ◌/◌, set, replicate}
 use Rattle.std.specs.Int.Bits.{bit_xor}
 use Rattle.gf2.specs.Equation.{eval_vars}
 use Rattle.gf2.specs.Result.{Result, unsolvable, ok}
 use Rattle.dense_rows.specs.Bits.{Row, columns}
 use Rattle.dense_rows.specs.Steps.{pivot_from, swap_rows, clear_row}
-use Rattle.dense_rows.specs.declared.Pivot.TheVariants.{At, Nowhere}
 
 -- ---- one column
 
@@ -23,7 +22,7 @@ topped c (pivot ∷ below) = taken pivot (map (clear_row c pivot) below)
 
 -- the first row that has the column changes places with the first row, from the column's word onward
 unfoldable pub column : ℕ → List Row → Step
-column c rest = elim (pivot_from c 0 rest) [ At r ↦ topped c (swap_rows (c / 64) 0 r rest) | Nowhere ↦ passed ]
+column c rest = elim (pivot_from c 0 rest) [ Some r ↦ topped c (swap_rows (c / 64) 0 r rest) | None ↦ passed ]
 
 -- ---- columns left to right
 

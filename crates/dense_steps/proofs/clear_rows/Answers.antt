@@ -1,6 +1,7 @@
 -- A row more is cleared, where it has the column or has it not.
 use Rattle.std.proofs.Common.{sym, ◌∙◌, ◌⊎◌, ◌<◌, ⊎_elim, inl, inr, arith}
-use Rattle.dense_steps.proofs.Clearing.{holds_same, cleared_none, clear_skip, clear_turn}
+use Rattle.dense_rows.proofs.Holding.{holds_same}
+use Rattle.dense_steps.proofs.Clearing.{cleared_none, clear_skip, clear_turn}
 use Rattle.dense_steps.proofs.clear_rows.Goals as goal
 use Rattle.dense_steps.proofs.clear_rows.Goals.{then-has, else-has}
 

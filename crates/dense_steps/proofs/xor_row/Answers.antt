@@ -1,7 +1,6 @@
 -- The two XORs, lifted to rows.
-use Rattle.std.proofs.Common.{◌*◌, arith}
-use Rattle.dense_rows.proofs.Holding.{same_area}
-use Rattle.dense_steps.proofs.AreaSteps.{rows_within, apart_rows, apart_cells, xored_became}
+use Rattle.std.proofs.Common.{refl, arith}
+use Rattle.dense_steps.proofs.AreaSteps.{rows_within, apart_rows, xored_became}
 use Rattle.dense_steps.proofs.xor_row.Goals as goal
 
 pub xor_words-requires : goal.xor_words-requires
@@ -14,6 +13,6 @@ pub returns : goal.returns
 returns c =
     let a = c.args.area.now in
     record {
-      same = same_area;
+      same = record { same_m = refl; same_w = refl; same_reference = refl };
       became = xored_became a.m a.w a.words.now a.room c.args.word c.args.i c.args.j c.requires.0 c.requires.1 c.requires.2 c.requires.3 _ _ c.xor_words.ensures c.xor_words-2.ensures;
     }

@@ -1,4 +1,3 @@
-use Rattle.std.proofs.Common.{rules}
 use Rattle.dense_steps.proofs.Xoring.{xoring_begin, xoring_turn}
 use Rattle.dense_steps.proofs.xor_words.Goals as goal
 
