@@ -21,7 +21,8 @@ use Rattle.dense_rows.specs.Bits.{bit_at, columns_from, empty_from, xor_words}
 use Rattle.dense_rows.specs.Rows.{row_at, rows_from}
 use Rattle.dense_rows.specs.Steps.{pivot_from, from_word, swap_rows, xor_from, clear_row}
 use Rattle.dense_walk.specs.Eliminate as dense
-use Rattle.dense.specs.Call.{row_rules, dense_rules, dense_call}
+use Rattle.dense_rows.specs.Rules.{row_rules, dense_rules}
+use Rattle.dense.specs.Call.{dense_call}
 use Rattle.dense.proofs.CallTheorems.{DenseLent, dense_on, dense_system, DenseRuns}
 use Rattle.lazy.specs.Lazy.{lazy_elimination, whole_run, after, unit, pop, pop_equation, pop_variable, pop_dense, pass_over, copy, solve_for, skip, activate, lowered, pushed, added_into, dense_row, last_unit, fill, start, heaviest, listing, others}
 use Rattle.lazy_calls.specs.LazyCall.{lazy_call}

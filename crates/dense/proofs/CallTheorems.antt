@@ -22,7 +22,8 @@ use Rattle.answers.proofs.Calls.{Early, Admitted, call_two, solved_call, unsolva
 use Rattle.dense_rows.specs.Bits.{Row, row_fits}
 use Rattle.dense_rows.specs.Rows.{rows_of}
 use Rattle.dense_walk.specs.Eliminate.{dense_elimination}
-use Rattle.dense.specs.Call.{row_rules, dense_rules, dense_equations, dense_call}
+use Rattle.dense_rows.specs.Rules.{row_rules, dense_rules}
+use Rattle.dense.specs.Call.{dense_equations, dense_call}
 use Rattle.dense.proofs.Theorems.{dense_canonical, dense_exact, dense_narrow, dense_isolated}
 
 -- ---- the rules refuse with 1 to 3

@@ -1,7 +1,6 @@
-pub mod RowRules
-pub mod Lending
 pub mod Theorems
 pub mod Running
+pub mod Slack
 pub mod Examples
 pub mod CallTheorems
 pub mod Determined

@@ -1,37 +1,34 @@
--- The run: the loaded system, what the walk and back substitution make of it, and the cleared room.
-use mathlib.Core.Path.{◌≡◌, sym, ap, ap₂, ◌∙◌}
+-- The run of an engine: the loaded system, what the columns make of it, and the cleared room.
+use mathlib.Core.Path.{◌≡◌, refl, sym, ap, ap₂, ◌∙◌}
 use mathlib.Core.List.{List, ◌++◌, append-nil}
-use mathlib.Core.Bool.{Bool, true, false}
+use mathlib.Core.Bool.{false}
 use Prim.Native.Nat.{ℕ, ◌+◌, ◌-◌, ◌*◌, ◌<◌, ◌≤◌}
-use native.Mathlib.Nat.{zero-add}
 use native.Mathlib.Omega.{arith}
 use lib.ListN.{length, get_or, take, drop, replicate, length-replicate}
 use lib.Seq.{get_or-take, get_or-drop, length-take-le}
 use Rattle.gf2.specs.Equation.{Each}
-use Rattle.gf2.specs.Result.{unsolvable, ok}
-use Rattle.gf2.proofs.SymDiff.{each_sym_diff}
+use Rattle.gf2.specs.Result.{Result, unsolvable, ok}
 use Rattle.areas.specs.Stretch.{stretch, put, zeroed, cleared}
-use Rattle.areas.proofs.Stretch.{stretch-stretch, stretch-put_before, stretch-put_within, length-put, drop-put_after, get_or-put, put_all, cleared_is_put, cleared_same, drop_agree}
+use Rattle.areas.proofs.Stretch.{stretch-take, stretch-put_before, stretch-put_within, length-put, drop-put_after, get_or-put, put_all, cleared_is_put, cleared_same, drop_agree}
 use Rattle.areas.proofs.Offsets.{row_before}
-use Rattle.answers.specs.Answers.{Kept}
+use Rattle.answers.specs.Sizes.{dense_numbers, dense_words}
+use Rattle.answers.specs.Answers.{Kept, Solved, Unsolvable}
+use Rattle.answers.specs.Numbers.{number_of}
+use Rattle.answers.specs.Told.{Tells}
 use Rattle.dense_rows.specs.Bits.{Row, bit_at, columns_from, columns}
-use Rattle.dense_rows.specs.Rows.{row_at, rows_of, held, Became}
+use Rattle.dense_rows.specs.Rows.{row_at, rows_of, Became}
+use Rattle.dense_rows.specs.Areas.{rows_in, SameArea, Holds}
+use Rattle.dense_rows.specs.Rules.{rules_in, rows_lent}
+use Rattle.dense_rows.specs.declared.area.Area.{Area}
+use Rattle.dense_rows.specs.declared.system.DenseSystem.{DenseSystem}
 use Rattle.dense_rows.proofs.ColumnLaws.{columns_from_add, columns_from_none, columns_below}
 use Rattle.dense_rows.proofs.HeldLaws.{rows_length, rows_are, row_of, rows_wide, rows_each}
-use Rattle.dense_walk.specs.Eliminate.{Walk, walk, residue, back_sub, finish, dense_elimination}
-use Rattle.dense_walk.specs.Stairs.{Ready}
-use Rattle.dense_walk.specs.Areas.{Eliminated}
-use Rattle.dense.specs.Call.{dense_rules}
-use Rattle.dense.specs.Fits.{DenseFits}
-use Rattle.dense.proofs.Lending.{dense_kept_sound}
-use Rattle.dense_walk.proofs.RowTheorems.{wide_good}
-use Rattle.dense_walk.proofs.WalkLaws.{walked, walked_stairs, walked_ahead}
+use Rattle.dense_rows.proofs.Lending.{dense_kept_sound}
+use Rattle.dense_rows.proofs.Holding.{same_rows, holds_in}
+use Rattle.dense_walk.specs.Stairs.{FitRows}
+use Rattle.dense.specs.Engines.{Reduced, run_call}
 
 -- ---- the system is loaded
-
-stretch-take : (b n k : ℕ) (l : List ℕ) → b + n ≤ k → stretch b n (take k l) ≡ stretch b n l
-unfolding stretch
-stretch-take b n k l h = stretch-stretch b n 0 k l h ∙ ap (λ (i : ℕ). stretch i n l) (zero-add b)
 
 pub loaded_became : (m w : ℕ) (rows constants words mid after : List ℕ) → m * w ≤ length rows → m ≤ length constants → m * w + m ≤ length words
     → mid ≡ put 0 (take (m * w) rows) words → after ≡ put (m * w) (take m constants) mid → Became m w words (rows_of m w rows constants) after
@@ -90,7 +87,7 @@ zeroed_all n l l' h e =
     let z : n - 0 ≡ n = omega arith in
     e ∙ ap (λ (k : ℕ). put 0 (replicate k 0) l) z ∙ put_all (replicate n 0) l (length-replicate n 0 ∙ sym h)
 
--- ---- the walk and what follows
+-- ---- the rows that are lent
 
 -- a row without a bit at column n or above lists none of these
 fitting_columns : (n w : ℕ) (words : List ℕ) → n ≤ 64 * w → ((v : ℕ) → n ≤ v → bit_at v words ≡ false) → Each (λ u. u < n) (columns (64 * w) words)
@@ -102,66 +99,52 @@ fitting_columns n w words h f =
     ∙ append-nil (columns n words) in
     rw same (columns_below n words)
 
-module _ (rows constants : List ℕ) {n m w : ℕ} {numbers words words₁ : List ℕ} {rank : ℕ} {numbers₂ words₂ : List ℕ} (kept : dense_rules n m w rows constants ≡ Kept)
-    (l : Became m w words (rows_of m w rows constants) words₁) (e : Eliminated n m w numbers words₁ rank numbers₂ words₂) where
-  lent : DenseFits n m w rows constants
-  lent = dense_kept_sound n m w rows constants kept
+pub rows_fit : (s : DenseSystem) → rules_in s ≡ Kept → FitRows s.n s.w (rows_lent s)
+unfolding row_at
+rows_fit s kept =
+    let lent = dense_kept_sound s.n s.m s.w s.rows.now s.constants.now kept in (
+      rows_wide s.m s.w s.rows.now s.constants.now lent.rows_there,
+      rows_each (λ row. Each (λ u. u < s.n) (columns (64 * s.w) row.words)) s.m s.w 0 s.rows.now s.constants.now
+          (λ j _ g. fitting_columns s.n s.w (stretch (j * s.w) s.w s.rows.now) lent.columns_there (lent.no_bit j (omega arith))),
+    )
 
-  end : Walk
-  end = walk n 0 (rows_of m w rows constants)
+-- ---- the columns and what follows, in an area of the system's size
 
-  pivots_are : take rank numbers₂ ≡ end.pivots
-  unfolding end
-  pivots_are = e.pivots ∙ ap (λ (q : List Row). (walk n 0 q).pivots) l.holds
+module _ (s : DenseSystem) {R : List Row → List ℕ → List Row → List Row → Type 0} {a b c : Area} {rows : List Row} {numbers numbers' : List ℕ} {rank : ℕ} (hm : a.m ≡ s.m) (hw : a.w ≡ s.w)
+    (l : Holds a rows b) (q : SameArea b c) (e : Reduced R b.m b.w numbers b.words.now rank numbers' c.words.now) where
+  m_is : c.m ≡ s.m
+  m_is = q.same_m ∙ l.same.same_m ∙ hm
 
-  rows_here : take rank (held m w words₂) ≡ end.rows
-  unfolding end
-  rows_here = e.rows ∙ ap (λ (q : List Row). (walk n 0 q).rows) l.holds
+  pub w_is : c.w ≡ s.w
+  w_is = q.same_w ∙ l.same.same_w ∙ hw
 
-  left_is : drop rank (held m w words₂) ≡ end.left
-  unfolding end
-  left_is = e.left ∙ ap (λ (q : List Row). (walk n 0 q).left) l.holds
+  -- what the columns made of the rows that were loaded
+  pub run_reduced : R rows (take rank numbers') (take rank (rows_in c)) (drop rank (rows_in c))
+  run_reduced = rw (← (holds_in l), same_rows q) e.reduces
 
-  finish_left : (b : Bool) → residue (drop rank (held m w words₂)) ≡ b → residue end.left ≡ b
-  finish_left b r = ap residue (sym left_is) ∙ r
+  pub run_numbers : cleared (dense_numbers c.m) numbers' ≡ cleared (dense_numbers s.m) numbers
+  run_numbers =
+      let h = l.same.same_m in
+      let r = e.ranked in
+      ap (λ (k : ℕ). cleared k numbers') m_is ∙ cleared_same s.m numbers' numbers (drop_agree rank s.m numbers' numbers (omega arith) e.numbers_past)
 
-  -- a constant is left
-  pub run_refused : residue (drop rank (held m w words₂)) ≡ true → dense_elimination n (rows_of m w rows constants) ≡ unsolvable
-  unfolding dense_elimination finish end
-  run_refused r = rw (finish_left true r, finish)
+  pub run_words : cleared (dense_words c.m c.w) c.words.now ≡ cleared (dense_words s.m s.w) a.words.now
+  run_words =
+      let past = rw (l.same.same_m, l.same.same_w) at e.words_past in
+      let same : drop (s.m * s.w + s.m) c.words.now ≡ drop (s.m * s.w + s.m) a.words.now = rw (hm, hw) at (past ∙ l.became.past) in
+      ap₂ (λ (m w : ℕ). cleared (dense_words m w) c.words.now) m_is w_is ∙ cleared_same (s.m * s.w + s.m) c.words.now a.words.now same
 
-  -- none is left
-  pub run_solved : residue (drop rank (held m w words₂)) ≡ false
-      → dense_elimination n (rows_of m w rows constants) ≡ ok (back_sub n (take rank numbers₂) (take rank (held m w words₂)) (replicate n 0))
-  unfolding dense_elimination finish end
-  run_solved r = rw (finish_left false r, finish, pivots_are, rows_here)
+-- ---- what the run tells
 
-  -- back substitution may begin
-  pub run_ready : Ready n w (take rank numbers₂) (take rank (held m w words₂))
-  unfolding end row_at
-  run_ready =
-      let good = wide_good w (rows_of m w rows constants) (rows_wide m w rows constants lent.rows_there) in
-      let d = walked n 0 (rows_of m w rows constants) in
-      let hn = lent.columns_there in
-      rw (pivots_are, rows_here) (record {
-        stairs = walked_stairs n w hn d (zero-add n) good;
-        wide_enough = hn;
-        fits =
-            (walked_ahead n w hn (64 * w) (λ q. Each (λ u. u < n) q.vars) (λ x y p q. each_sym_diff (λ u. u < n) x.vars y.vars p q) d (zero-add n) good
-            (rows_each (λ row. Each (λ u. u < n) (columns (64 * w) row.words)) m w 0 rows constants
-            (λ j _ g. fitting_columns n w (stretch (j * w) w rows) hn (lent.no_bit j (omega arith))))).0;
-      })
+module _ (elimination : ℕ → List Row → Result (List ℕ)) (s : DenseSystem) (solution numbers words solution' : List ℕ) {numbers' words' : List ℕ} (n : numbers' ≡ cleared (dense_numbers s.m) numbers)
+    (w : words' ≡ cleared (dense_words s.m s.w) words) where
+  pub tells_refused : elimination s.n (rows_lent s) ≡ unsolvable → solution' ≡ solution → Tells (run_call elimination s solution numbers words) (number_of Unsolvable) 0 solution' numbers' words'
+  tells_refused e f = rw e (record { number_is = refl; place_is = refl; solution_is = f; numbers_are = n; words_are = w })
 
-  pub run_numbers : cleared m numbers₂ ≡ cleared m numbers
-  run_numbers = cleared_same m numbers₂ numbers (drop_agree rank m numbers₂ numbers e.ranked e.numbers_past)
-
-  pub run_words : cleared (m * w + m) words₂ ≡ cleared (m * w + m) words
-  run_words = cleared_same (m * w + m) words₂ words (e.words_past ∙ l.past)
+  pub tells_solved : elimination s.n (rows_lent s) ≡ ok solution' → Tells (run_call elimination s solution numbers words) (number_of Solved) 0 solution' numbers' words'
+  tells_solved e = rw e (record { number_is = refl; place_is = refl; solution_is = refl; numbers_are = n; words_are = w })
 
 -- ---- the solution
 
 pub zeroed_length : (n : ℕ) (l l' : List ℕ) → length l ≡ n → l' ≡ zeroed 0 n l → length l' ≡ n
 zeroed_length n l l' h e = ap length (zeroed_all n l l' h e) ∙ length-replicate n 0
-
-pub filled : (n : ℕ) (ps : List ℕ) (rows : List Row) (l z x : List ℕ) → length l ≡ n → z ≡ zeroed 0 n l → x ≡ back_sub (length z) ps rows z → x ≡ back_sub n ps rows (replicate n 0)
-filled n ps rows l z x h e f = f ∙ ap₂ (λ (k : ℕ) (y : List ℕ). back_sub k ps rows y) (zeroed_length n l z h e) (zeroed_all n l z h e)

@@ -19,9 +19,10 @@ use Rattle.dense_rows.specs.Rows.{row_at, rows_of}
 use Rattle.dense_rows.proofs.StepLaws.{Wide}
 use Rattle.dense_rows.proofs.HeldLaws.{rows_wide, rows_each}
 use Rattle.dense_walk.specs.Eliminate.{dense_elimination}
-use Rattle.dense.specs.Call.{dense_rules, dense_equations}
-use Rattle.dense.specs.Fits.{DenseFits}
-use Rattle.dense.proofs.Lending.{dense_kept_sound}
+use Rattle.dense_rows.specs.Rules.{dense_rules}
+use Rattle.dense.specs.Call.{dense_equations}
+use Rattle.dense_rows.specs.Fits.{DenseFits}
+use Rattle.dense_rows.proofs.Lending.{dense_kept_sound}
 use Rattle.dense_walk.proofs.RowTheorems.{sorted_rows, rows_canonical, rows_cancel, rows_refused}
 
 module _ (n m w : ℕ) (rows constants : List ℕ) (kept : dense_rules n m w rows constants ≡ Kept) where

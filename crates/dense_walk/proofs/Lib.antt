@@ -6,3 +6,4 @@ pub mod WordsBefore
 pub mod PivotStep
 pub mod Walking
 pub mod Backing
+pub mod Walked

@@ -7,7 +7,7 @@ use Rattle.dense_rows.specs.Bits.{Row, bit_at, empty_from, xor_words}
 use Rattle.dense_rows.specs.Rows.{row_at, rows_from}
 use Rattle.dense_rows.specs.Steps.{pivot_from, from_word, swap_rows, xor_from, clear_row}
 use Rattle.dense_walk.specs.Eliminate.{topped, column, residue}
-use Rattle.dense.specs.Call.{row_rules, dense_rules}
+use Rattle.dense_rows.specs.Rules.{row_rules, dense_rules}
 use Rattle.slow_rules.specs.Slow.{clear_pivot_row, clear_column, clear_columns, untouched, read_off, read_end, slow_elimination}
 use Rattle.slow_rules.specs.SlowCall.{slow_call}
 

@@ -34,8 +34,9 @@ use Rattle.dense_rows.proofs.HeldLaws.{rows_wide}
 use Rattle.dense_rows.proofs.StepLaws.{Wide}
 use Rattle.dense_walk.specs.Eliminate.{residue, dense_elimination}
 use Rattle.dense_walk.proofs.RowTheorems.{sorted_rows, wide_good, residue_none, residue_some, rows_canonical, rows_cancel}
-use Rattle.dense.specs.Call.{dense_rules, dense_call}
-use Rattle.dense.proofs.Lending.{dense_kept_sound}
+use Rattle.dense_rows.specs.Rules.{dense_rules}
+use Rattle.dense.specs.Call.{dense_call}
+use Rattle.dense_rows.proofs.Lending.{dense_kept_sound}
 use Rattle.dense.proofs.CallTheorems.{DenseLent, dense_on, dense_system, DenseRuns, dense_call_solves, dense_call_exact, dense_call_says, dense_call_canonical, dense_call_isolated, dense_call_narrow, dense_call_keeps, dense_call_untouched, dense_call_cleared}
 use Rattle.slow_rules.specs.Slow.{PivotRow, Progress, untouched, clear_columns, read_off, read_end, slow_elimination}
 use Rattle.slow_rules.specs.SlowCall.{slow_call}

@@ -3,7 +3,7 @@ use Rattle.std.specs.Prelude.{List, ℕ}
 use Rattle.answers.specs.Sizes.{dense_numbers, dense_words}
 use Rattle.answers.specs.Calls.{Call, solver_call}
 use Rattle.dense_rows.specs.Rows.{rows_of}
-use Rattle.dense.specs.Call.{dense_rules}
+use Rattle.dense_rows.specs.Rules.{dense_rules}
 use Rattle.slow_rules.specs.Slow.{slow_elimination}
 
 unfoldable pub slow_call : ℕ → ℕ → ℕ → List ℕ → List ℕ → List ℕ → List ℕ → List ℕ → Call

@@ -11,7 +11,8 @@ use Rattle.dense_rows.specs.Bits.{bit_at, columns_from, empty_from, xor_words}
 use Rattle.dense_rows.specs.Rows.{row_at, rows_from}
 use Rattle.dense_rows.specs.Steps.{pivot_from, from_word, swap_rows, xor_from, clear_row}
 use Rattle.dense_walk.specs.Eliminate.{topped, column, walk, residue, pin, back_sub, finish, dense_elimination}
-use Rattle.dense.specs.Call.{row_rules, dense_rules, dense_call}
+use Rattle.dense_rows.specs.Rules.{row_rules, dense_rules}
+use Rattle.dense.specs.Call.{dense_call}
 use Rattle.slow_rules.proofs.SlowTheorems.{slow_call_same}
 
 pub dense_come_out : Each Comes (dense_lines by_dense)

@@ -4,7 +4,7 @@ use borrow.Author.Rules.{rules}
 use borrow.Author.Tests.{le-leb, lt-leb, eq-eqb}
 use Rattle.gf2.proofs.Tests.{eqb_ne}
 use Rattle.answers.proofs.Told.{call_tells, tells}
-use Rattle.dense.proofs.Lending.{dense_kept_sound}
+use Rattle.dense_rows.proofs.Lending.{dense_kept_sound}
 use Rattle.slow_rules.specs.SlowCall.{slow_call}
 use Rattle.slow_dense.proofs.slow_gaussian_elimination.Statement.{statement}
 use Rattle.slow_dense.proofs.slow_gaussian_elimination.Tie as tie

@@ -2,8 +2,8 @@
 use mathlib.Core.Path.{refl, sym, ◌∙◌}
 use native.Mathlib.Omega.{arith}
 use borrow.Author.Rules.{rules}
-use Rattle.dense.specs.Fits.{DenseFits}
-use Rattle.dense.proofs.Lending.{dense_kept_sound}
+use Rattle.dense_rows.specs.Fits.{DenseFits}
+use Rattle.dense_rows.proofs.Lending.{dense_kept_sound}
 use Rattle.dense.proofs.Running.{zeroed_length}
 use Rattle.slow_dense.proofs.SlowRunning.{slow_refused, slow_solved, slow_numbers, slow_words, slow_filled}
 use Rattle.slow_dense.proofs.run.solve.Statement.{statement}
