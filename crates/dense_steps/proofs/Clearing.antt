@@ -95,7 +95,21 @@ module _ (col word pivot from i : ℕ) {a b : Area} (h : Holds a (cleared_rows c
       let r : Row = xor_from word (get_or (rows_in b) pivot no_row) (get_or (rows_in b) i no_row) in
       holds_as (next r (sym (cleared_row_set col word (get_or (rows_in b) pivot no_row) (get_or (rows_in b) i no_row) e))) (holds_then (λ (rows : List Row). set rows i r) h g)
 
--- ---- the pivot row is brought up, and then the rows below are cleared
+-- ---- the rows below the pivot row and those above it
+
+-- the rows below row i are those from the next up to the last
+pub cleared_below : (c i m : ℕ) (rows : List Row) → i < m → length rows ≡ m → cleared_rows c (c / 64) i (i + 1) m rows ≡ clear_below c i rows
+unfolding cleared_rows cleared_row clear_below clear_row put stretch
+cleared_below c i m rows h n =
+    let f = cleared_row c (c / 64) (get_or rows i no_row) in
+    let d = length-drop (i + 1) rows in
+    let all : take (m - (i + 1)) (drop (i + 1) rows) ≡ drop (i + 1) rows = take_all (m - (i + 1)) (drop (i + 1) rows) (omega arith) in
+    let long : length (map f (drop (i + 1) rows)) ≡ m - (i + 1) = length-map (drop (i + 1) rows) f ∙ omega arith in
+    ap (λ (l : List Row). take (i + 1) rows ++ (map f l ++ drop (i + 1 + length (map f l)) rows)) all
+    ∙ ap (λ (l : List Row). take (i + 1) rows ++ (map f (drop (i + 1) rows) ++ l)) (drop_of_length-le rows {i = i + 1 + length (map f (drop (i + 1) rows))} (omega arith))
+    ∙ ap (λ (l : List Row). take (i + 1) rows ++ l) (append-nil (map f (drop (i + 1) rows)))
+
+-- ---- the pivot row is brought up
 
 -- a row that changes places with itself
 swap_self : (k i : ℕ) (rows : List Row) → swap_rows k i i rows ≡ rows
@@ -109,20 +123,3 @@ swap_self k i rows =
 -- .. and its row, which stands at the rank already
 pub stays : {a : Area} (k rank pivot : ℕ) → pivot ≡ rank → Holds a (swap_rows k rank pivot (rows_in a)) a
 stays {a} k rank pivot e = holds_same (sym (ap (λ (r : ℕ). swap_rows k rank r (rows_in a)) e ∙ swap_self k rank (rows_in a)))
-
--- the rows below row i are those from the next up to the last
-cleared_below : (c i m : ℕ) (rows : List Row) → i < m → length rows ≡ m → cleared_rows c (c / 64) i (i + 1) m rows ≡ clear_below c i rows
-unfolding cleared_rows cleared_row clear_below clear_row put stretch
-cleared_below c i m rows h n =
-    let f = cleared_row c (c / 64) (get_or rows i no_row) in
-    let d = length-drop (i + 1) rows in
-    let all : take (m - (i + 1)) (drop (i + 1) rows) ≡ drop (i + 1) rows = take_all (m - (i + 1)) (drop (i + 1) rows) (omega arith) in
-    let long : length (map f (drop (i + 1) rows)) ≡ m - (i + 1) = length-map (drop (i + 1) rows) f ∙ omega arith in
-    ap (λ (l : List Row). take (i + 1) rows ++ (map f l ++ drop (i + 1 + length (map f l)) rows)) all
-    ∙ ap (λ (l : List Row). take (i + 1) rows ++ (map f (drop (i + 1) rows) ++ l)) (drop_of_length-le rows {i = i + 1 + length (map f (drop (i + 1) rows))} (omega arith))
-    ∙ ap (λ (l : List Row). take (i + 1) rows ++ l) (append-nil (map f (drop (i + 1) rows)))
-
-pub then_below : {a b c : Area} {rows : List Row} (col rank : ℕ) → rank < b.m → Holds a rows b → Holds b (cleared_rows col (col / 64) rank (rank + 1) b.m (rows_in b)) c
-    → Holds a (clear_below col rank rows) c
-then_below {a} {b} col rank h p q =
-    holds_then (clear_below col rank) p (holds_as (cleared_below col rank b.m (rows_in b) h (rows_count b)) q)

@@ -52,6 +52,14 @@ pub fn clear_rows(area: &mut Area, col: usize, word: usize, pivot: usize, from: 
     }
 }
 
+// Each row below the pivot row that has the column gets the pivot row.
+pub fn clear_below(area: &mut Area, col: usize, rank: usize)
+    requires { (rank < area.old.m) × (col < 64 * area.old.w) }
+    ensures { Holds area.old (clear_below col rank (rows_in area.old)) area.new }
+{
+    clear_rows(area, col, col / 64, rank, rank + 1, area.m);
+}
+
 // The pivot row changes places with the row at the rank, and is cleared from the rows below.
 pub fn take_pivot(area: &mut Area, col: usize, rank: usize, pivot: usize)
     requires { (rank ≤ pivot) × (pivot < area.old.m) × (col < 64 * area.old.w) }
@@ -60,5 +68,5 @@ pub fn take_pivot(area: &mut Area, col: usize, rank: usize, pivot: usize)
     if pivot != rank {
         swap_rows(area, col / 64, rank, pivot);
     }
-    clear_rows(area, col, col / 64, rank, rank + 1, area.m);
+    clear_below(area, col, rank);
 }

@@ -1,20 +1,14 @@
 -- What the lent areas hold when columns have been cleared.
-use Rattle.std.specs.Prelude.{◌≡◌, List, [], ◌∷◌, ◌++◌, map, ℕ, ◌+◌, ◌*◌, ◌≤◌, ◌<◌, length, get_or, take, drop}
+use Rattle.std.specs.Prelude.{◌≡◌, List, ◌++◌, map, ℕ, ◌+◌, ◌*◌, ◌≤◌, ◌<◌, length, get_or, take, drop}
 use Rattle.gf2.specs.Equation.{Each}
 use Rattle.dense_rows.specs.Bits.{Row}
 use Rattle.dense_rows.specs.Rows.{held}
 use Rattle.dense_rows.specs.Steps.{no_row, clear_row}
-use Rattle.slow_rules.specs.Slow.{PivotRow, Progress, clear_columns, untouched}
+use Rattle.slow_rules.specs.Slow.{Progress, clear_columns, untouched, pivot_rows}
 
 -- the rows above row i, each that has the column with row i XORed into it
 unfoldable pub clear_above : ℕ → ℕ → List Row → List Row
 clear_above c i rows = map (clear_row c (get_or rows i no_row)) (take i rows) ++ drop i rows
-
--- columns and rows, one by one
-unfoldable pub pivot_rows : List ℕ → List Row → List PivotRow
-pivot_rows [] rows = []
-pivot_rows (c ∷ cs) [] = []
-pivot_rows (c ∷ cs) (row ∷ rows) = record { at = c; row = row } ∷ pivot_rows cs rows
 
 -- the numbers hold the pivots' columns, and the words their rows, then the rows from the rank on
 abbrev pub progress_in : ℕ → ℕ → ℕ → List ℕ → List ℕ → Progress

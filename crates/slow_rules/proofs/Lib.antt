@@ -2,3 +2,4 @@ pub mod ColumnsCleared
 pub mod ReadingOff
 pub mod SlowTheorems
 pub mod Examples
+pub mod Cleared

@@ -1,6 +1,7 @@
 -- Dense elimination without back substitution:
 -- each pivot column is cleared in all other rows, above and below, so that the constants can be read off at the end.
-use Rattle.std.specs.Prelude.{List, [], ◌∷◌, ◌++◌, map, true, false, ℕ, zero, suc, set, replicate}
+use Rattle.std.specs.Prelude.{◌≡◌, List, [], ◌∷◌, ◌++◌, map, true, false, ℕ, zero, suc, ◌<◌, set, replicate}
+use Rattle.gf2.specs.Equation.{Each}
 use Rattle.gf2.specs.Result.{Result, unsolvable, ok}
 use Rattle.dense_rows.specs.Bits.{Row}
 use Rattle.dense_rows.specs.Steps.{clear_row}
@@ -48,3 +49,24 @@ read_end n s = elim (residue s.left) [ true ↦ unsolvable | false ↦ ok (read_
 
 unfoldable pub slow_elimination : ℕ → List Row → Result (List ℕ)
 slow_elimination n rows = read_end n (clear_columns n 0 (untouched rows))
+
+-- ---- columns and rows apart, as the engine holds them
+
+-- columns and rows, one by one
+unfoldable pub pivot_rows : List ℕ → List Row → List PivotRow
+pivot_rows [] rows = []
+pivot_rows (c ∷ cs) [] = []
+pivot_rows (c ∷ cs) (row ∷ rows) = record { at = c; row = row } ∷ pivot_rows cs rows
+
+-- the pivots are among n cells
+abbrev pub PivotsBelow : ℕ → ℕ → List ℕ → List Row → Type 0
+PivotsBelow n w pivots rows = Each (λ p. p < n) pivots
+
+-- what n columns make of rows: the pivots, their rows, and the rows that are left
+abbrev pub Clears : ℕ → List Row → List ℕ → List Row → List Row → Type 0
+Clears n rows pivots tops left =
+    PivotsBelow n 0 pivots tops × (clear_columns n 0 (untouched rows) ≡ record { done = pivot_rows pivots tops; left = left })
+
+-- the cells with the pivots' constants in them
+abbrev pub read_pivots : ℕ → List ℕ → List Row → List ℕ → List ℕ
+read_pivots n pivots rows x = read_off (pivot_rows pivots rows) x

@@ -1,8 +1,9 @@
 -- The rows after the branch are the swapped rows either way; then they are cleared.
 use Rattle.std.proofs.Common.{◌/◌, arith}
-use Rattle.dense_rows.specs.Steps.{swap_rows}
+use Rattle.dense_rows.specs.Steps.{swap_rows, clear_below}
 use Rattle.dense_rows.specs.Areas.{rows_in, Holds}
-use Rattle.dense_steps.proofs.Clearing.{stays, then_below}
+use Rattle.dense_rows.proofs.Holding.{holds_then}
+use Rattle.dense_steps.proofs.Clearing.{stays}
 use Rattle.dense_steps.proofs.take_pivot.Goals as goal
 use Rattle.dense_steps.proofs.take_pivot.Goals.{then-pivot-rank, else-pivot-rank}
 
@@ -14,4 +15,4 @@ returns c =
       | then-pivot-rank w ↦ rw w.area-is w.swap_rows.ensures
       | else-pivot-rank w ↦ rw w.area-is (stays (a.col / 64) a.rank a.pivot w.if-pivot-rank.false)
     ] in
-    then_below a.col a.rank (let s = brought.same in omega (arith, s)) brought c.clear_rows.ensures
+    holds_then (clear_below a.col a.rank) brought c.clear_below.ensures
