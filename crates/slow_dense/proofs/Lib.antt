@@ -1,5 +1,3 @@
-pub mod ClearingAbove
 pub mod ClearingColumns
 pub mod ReadingPivots
-pub mod SlowRunning
 pub mod Determined

@@ -1,5 +1,5 @@
 -- The rows after the branch are the swapped rows either way; then they are cleared.
-use Rattle.std.proofs.Common.{◌/◌, arith}
+use Rattle.std.proofs.Common.{◌/◌}
 use Rattle.dense_rows.specs.Steps.{swap_rows, clear_below}
 use Rattle.dense_rows.specs.Areas.{rows_in, Holds}
 use Rattle.dense_rows.proofs.Holding.{holds_then}
