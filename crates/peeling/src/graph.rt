@@ -29,8 +29,8 @@ pub struct EdgeAndSide {
     pub side: u8,
 }
 
-// Each call that takes a vertex is refused by 10 outside its domain, and then what it was lent stays. The two slices come apart:
-// a call that reads lends them shared, so a struct of both would be needed in two kinds.
+// Each call that takes a vertex is refused by 10 outside its domain, and then what it was lent stays. Numbers and bytes are two slices, since a record of
+// both takes 8 bytes in place of 5, and come apart, since a call that reads is lent them shared: a struct of both would be needed in two kinds.
 impl XorGraph {
     // One more incidence in a byte.
     pub const STEP: u8 = 4;

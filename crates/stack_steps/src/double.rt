@@ -14,6 +14,7 @@ use peeling::numbers::Vertex;
 pub struct DoubleStack {}
 
 // A push and a pop outside their domain are refused by 10, and leave the head and the slice. A pop gives no vertex where its stack is empty.
+// The lower stack's steps are those of FastStack behind another test: shared, they would need a contract each that is longer than they are.
 impl DoubleStack {
     pub fn push_lower(head: &mut Head, stack: &mut [u32], v: Vertex) -> Result<(), Refusal>
         ensures value { answer_of result ≡ (push_lower stack.old head.old v.0).result.answer }

@@ -1,4 +1,4 @@
-// Stacks of vertex numbers in lent slices, whose heads are lent too.
+// Stacks of vertex numbers in lent slices, whose heads are lent too: memory is fixed, so no Vec.
 #![tactic(auto)]
 
 pub mod double;
