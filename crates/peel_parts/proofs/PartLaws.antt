@@ -27,15 +27,15 @@ use Rattle.peel_gates.specs.Ends.{Peeling}
 use Rattle.peel_turns.specs.declared.visiting.Heads.{Heads}
 use Rattle.peel_steps.specs.Pictures.{peeled_in}
 use Rattle.peel_gates.specs.Rooms.{numbers_room, bytes_room}
-use Rattle.peel_turns.specs.Steps.{Holds, Preloaded}
+use Rattle.peel_turns.specs.Steps.{Preloaded}
 use Rattle.peel_gates.specs.Rooms.{Lent}
 use Rattle.peel_gates.specs.Ends.{end_of}
 use Rattle.peel_turns.proofs.PictureLaws.{drop_agrees}
 use Rattle.peel_gates.proofs.RoomLaws.{zeroed_cleared}
 use Rattle.peel_steps.specs.Lowest.{vertex_or}
-use Rattle.peel_walks.specs.Walks.{PeelStarts, PeelEnds, Fillable}
+use Rattle.peel_walks.specs.Walks.{PeelStarts, PeelEnds}
 use Rattle.peel_walks.proofs.TableLaws.{valid_more}
-use Rattle.peel_parts.specs.Parts.{Begins, GraphBuilt, PeelAsks, FillAsks, cells_after, SettleAsks, Says, ran_says, Admitted, GraphAsks, Past}
+use Rattle.peel_parts.specs.Parts.{Begins, GraphBuilt, PeelAsks, cells_after, SettleAsks, Says, ran_says}
 
 -- ---- a crowded vertex is a vertex of an edge, and so below n
 
@@ -121,9 +121,6 @@ lent_on a p q = record { n_small = a.n_small; m_small = a.m_small; numbers_room 
 -- ---- the peeling
 
 module _ {high : Bool} {n : ℕ} {T : List Edge} {numbers bytes : List ℕ} (a : PeelAsks high n T numbers bytes) where
-  pub preload_asks : Holds n numbers bytes
-  preload_asks = record { room = omega (arith, (room_least high n (length T)).0, a.lent.numbers_room); room_b = omega (arith, (room_least high n (length T)).1, a.lent.bytes_room); small = a.lent.n_small }
-
   module _ {first : Heads} {d : List ℕ} (p : Preloaded n numbers bytes d first.stack × (first.peeled ≡ 0)) where
     pub starts : PeelStarts high n T d bytes first
     starts = record {
@@ -147,9 +144,6 @@ module _ {high : Bool} {n : ℕ} {T : List Edge} {numbers bytes : List ℕ} (a :
     }
 
 -- ---- the filling
-
-pub fill_asks : {high : Bool} {n count : ℕ} {T : List Edge} {cells numbers bytes : List ℕ} → FillAsks high n T count cells numbers bytes → (x : List ℕ) → length x ≡ length cells → Fillable high n T count (length x) numbers bytes
-fill_asks {high} {n} {count} {T} {cells} {numbers} {bytes} a x q = subst (λ (y : ℕ). Fillable high n T count y numbers bytes) (sym (q ∙ a.size)) a.fillable
 
 pub not_filled : (high : Bool) (n : ℕ) (T : List Edge) (m count : ℕ) (cells numbers bytes : List ℕ) → count < m → cells ≡ cells_after high n T m count cells numbers bytes
 unfolding cells_after
@@ -198,19 +192,3 @@ module _ {high : Bool} {n count : ℕ} {T : List Edge} {cells numbers bytes : Li
       go false q hx e =
           let i : answer n T ≡ solved (fill (peel n T).peeled (replicate n 0)) = verdict_solved (peel n T).left (omega (arith, counted, ltb-false count (length T) q)) in
           simp i (record { answer = ap (λ (y : Peeling). y.answer) e; report = ap (λ (y : Peeling). y.report) e; solution_is = hx ∙ ap (λ (ps : List Peeled). fill ps (zeroed 0 n cells)) a.peeled ∙ ap (fill (peel n T).peeled) zeros })
-
--- ---- the peeling and the filling, one after the other
-
-module _ {high : Bool} {n : ℕ} {T : List Edge} {cells numbers bytes : List ℕ} (a : GraphAsks high n T cells numbers bytes) where
-  abbrev call : Admitted high n T cells numbers bytes
-  call = a.admitted
-
-  pub peel_asks : PeelAsks high n T numbers bytes
-  peel_asks = record { lent = call.lent; valid = call.valid; uncrowded = a.uncrowded; graph = a.graph }
-
-  module _ {d b : List ℕ} {count : ℕ} (e : PeelEnds high n T numbers bytes d b count) where
-    pub settle_asks : SettleAsks high n T count cells d b
-    settle_asks = record { small = call.lent.m_small; valid = call.valid; fills = record { fillable = e.fillable; size = call.size }; peeled = e.peeled; counts = e.counts }
-
-    pub past_peeling : Past high n T numbers bytes d b
-    past_peeling = record { long = e.long; long_b = e.long_b; rest = e.rest; rest_b = e.rest_b }
