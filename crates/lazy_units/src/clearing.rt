@@ -10,7 +10,7 @@ ghost use Rattle.lazy_units.specs.Clearing.{ClearFits, Cleared};
 
 use lazy_pops::{CountedStep, Step};
 use lazy_setup::{Layout, Stand};
-use sparse_rows::echelon::Counted;
+use rows::{Counted, Unsolvable};
 
 // Row i of the d rows that stand from `dense` on, and from word m on, meets each later one.
 fn clear_dense(
@@ -21,7 +21,7 @@ fn clear_dense(
     m: usize,
     d: usize,
     i: usize,
-) -> Counted
+) -> Counted<Result<(), Unsolvable>>
     requires { ClearFits dense n m d i numbers.old words.old }
     ensures cleared { Cleared dense n m d i numbers.old words.old numbers.new words.new (reduction_of result.end) }
     ensures cancelled_value { result.cancelled ≡ outer_row_cancels i (take d (rows_of n m (drop dense numbers.old) (drop m words.old))) }

@@ -9,7 +9,10 @@ ghost use Rattle.gf2.specs.Common.{common};
 ghost use Rattle.rows.specs.Padding.{PaddedRows};
 ghost use Rattle.rows.specs.Picture.{Longer, Held, Became, rows_of, row_at, swapped, added};
 
+mod counted;
 mod front;
+
+pub use counted::{Counted, Unsolvable};
 
 // The room becomes zeros, which are `m` rows without variables; the remainder is untouched.
 pub fn clear(numbers: &mut [u32], words: &mut [u64], n: usize, m: usize)

@@ -1,6 +1,6 @@
 -- What comes of an elimination of rows; in the code a result.
 use Rattle.std.specs.Prelude.{Result, Ok, Err}
-use Rattle.sparse_rows.specs.declared.echelon.Unsolvable.{Unsolvable as NoValues}
+use Rattle.rows.specs.declared.counted.Unsolvable.{Unsolvable as NoValues}
 
 pub data Reduction : Type 0 where
   Unsolvable : Reduction

@@ -8,6 +8,8 @@ ghost use Rattle.sparse_rows.specs.Counts.{ahead};
 ghost use Rattle.sparse_rows.specs.Reduce.{Alike, MeetsRows, Passes, Reduces};
 ghost use Rattle.sparse_rows.specs.Reduction.{reduction_of};
 
+pub use rows::{Counted, Unsolvable};
+
 // What came of a meeting of row i and a later row j.
 #[derive(Clone, Copy, PartialEq, Debug)]
 pub enum Met {
@@ -25,17 +27,6 @@ pub enum Met {
 pub struct Encounter {
     pub met: Met,
     pub fallen: u64,
-}
-
-// No values meet some equation of the rows.
-#[derive(Clone, Copy, PartialEq, Debug)]
-pub struct Unsolvable;
-
-// What came of an elimination of rows, and how many variables cancelled in its sums, one that was refused included.
-#[derive(Clone, Copy, PartialEq, Debug)]
-pub struct Counted {
-    pub end: Result<(), Unsolvable>,
-    pub cancelled: u64,
 }
 
 // Row `i` meets the later row `j`, which has no variables or begins as row `i` does; a sum that has variables begins above row `j`, and is left to
@@ -127,7 +118,7 @@ pub fn outer_row(
     m: usize,
     d: usize,
     i: usize,
-) -> Counted
+) -> Counted<Result<(), Unsolvable>>
     requires { Held n m numbers.old words.old × (i < d) × (d ≤ m) × (n ≤ max_variables) }
     ensures reduces { Reduces (outer_row i) n m d numbers.old words.old numbers.new words.new (reduction_of result.end) }
     ensures cancelled_value { result.cancelled ≡ outer_row_cancels i (take d (rows_of n m numbers.old words.old)) }
@@ -173,7 +164,13 @@ pub fn outer_row(
 }
 
 // The first `d` rows to echelon form: every row but the last is an outer row.
-pub fn echelon_form(numbers: &mut [u32], words: &mut [u64], n: usize, m: usize, d: usize) -> Counted
+pub fn echelon_form(
+    numbers: &mut [u32],
+    words: &mut [u64],
+    n: usize,
+    m: usize,
+    d: usize,
+) -> Counted<Result<(), Unsolvable>>
     requires { Held n m numbers.old words.old × (d ≤ m) × (n ≤ max_variables) × (m ≤ max_equations) }
     ensures reduces { Reduces echelon_form n m d numbers.old words.old numbers.new words.new (reduction_of result.end) }
     ensures cancelled_value { result.cancelled ≡ sparse_cancels (take d (rows_of n m numbers.old words.old)) }

@@ -17,7 +17,7 @@ pub fn solve_rows(
     m: usize,
     d: usize,
     solution: &mut [u64],
-) -> Counted
+) -> Counted<Result<(), Unsolvable>>
     requires { Held n m numbers.old words.old × (d ≤ m) × (n ≤ max_variables) × (length solution.old ≡ n) × (m ≤ max_equations) }
     ensures finished_by { FinishedBy (gaussian_elimination n (take d (rows_of n m numbers.old words.old))) solution.old solution.new (reduction_of result.end) }
     ensures kept { Kept n m (drop (row_numbers n m) numbers.old) (drop (row_words m) words.old) numbers.new words.new }
