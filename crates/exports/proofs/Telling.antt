@@ -1,7 +1,7 @@
 -- What `check` said, told.
 use mathlib.Core.Path.{◌≡◌, ap, sym, ◌∙◌}
 use Prim.Native.Nat.{ℕ}
-use Rattle.system_check.specs.declared.Checked.{Checked}
+use Rattle.system_check.specs.CheckCall.{Checked}
 use Rattle.exports.specs.Told.{told_number, told_place}
 
 -- `check` said k, which is what its definition says

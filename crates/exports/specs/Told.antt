@@ -2,8 +2,7 @@
 use Rattle.std.specs.Prelude.{ℕ}
 use Rattle.answers.specs.Numbers.{number_of, place_of}
 use Rattle.answers.specs.Answers.{Solved, Unsolvable}
-use Rattle.system_check.specs.declared.Checked.{Checked}
-use Rattle.system_check.specs.declared.Checked.TheVariants.{Refused, Yes, No}
+use Rattle.system_check.specs.CheckCall.{Checked, Refused, Yes, No}
 
 -- `check`: a refusal's own number, 0 for yes and 6 for no
 abbrev pub told_number : Checked → ℕ

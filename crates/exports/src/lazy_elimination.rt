@@ -6,7 +6,8 @@ ghost use Rattle.lazy.specs.Cancelled.{lazy_cancels};
 ghost use Rattle.lazy_calls.specs.LazyCall.{lazy_call};
 ghost use Rattle.answers.specs.Told.{Tells};
 
-use crate::tell;
+use answers::tell;
+use system::System;
 
 // `lazy_calls::lazy_gaussian_elimination`; how many variables cancelled is written through `cancelled`.
 pub fn orohkaril_lazy(
@@ -24,10 +25,14 @@ pub fn orohkaril_lazy(
     ensures tells { Tells (lazy_call n m starts.now vars.now constants.now solution.old numbers.old words.old) result place.new solution.new numbers.new words.new }
     ensures cancelled_after { cancelled.new ≡ reported (lazy_call n m starts.now vars.now constants.now solution.old numbers.old words.old).answer (lazy_cancels n (equations m starts.now vars.now constants.now)) }
 {
-    let built = lazy_calls::lazy_gaussian_elimination(
-        n, m, starts, vars, constants, solution, numbers, words,
-    );
+    let system = System {
+        n,
+        m,
+        starts,
+        vars,
+        constants,
+    };
+    let built = lazy_calls::lazy_gaussian_elimination(&system, solution, numbers, words);
     *cancelled = built.cancelled;
-    let answer = built.answer;
-    tell(answer, place)
+    tell(&built.answer, place)
 }

@@ -5,7 +5,6 @@ pub mod lazy_elimination;
 pub mod slow_elimination;
 
 ghost use Rattle.std.specs.Prelude.{◌≡◌};
-ghost use Rattle.answers.specs.Numbers.{number_of, place_of};
 ghost use Rattle.answers.specs.Told.{Tells};
 ghost use Rattle.equation.specs.Sums.{sum_call, TellsSum};
 ghost use Rattle.system_check.specs.CheckCall.{check_call};
@@ -16,17 +15,10 @@ ghost use Rattle.sparse_rules.specs.SparseCall.{sparse_call};
 ghost use Rattle.dense.specs.Call.{dense_call};
 ghost use Rattle.exports.specs.Told.{told_number, told_place};
 
-use answers::Answer;
-use system_check::Checked;
-
-// The number of an answer; its place is written through `place`.
-fn tell(answer: Answer, place: &mut usize) -> u32
-    ensures value { result ≡ number_of answer }
-    ensures place_after { place.new ≡ place_of answer }
-{
-    *place = answer.place();
-    answer.number()
-}
+use answers::{Refusal, tell};
+use dense_rows::DenseSystem;
+use equation::Summed;
+use system::System;
 
 // `equation::sum`; the sum's length and constant go through `len` and `constant`, how many variables both lists had through `cancelled`.
 pub fn orohkaril_sum(
@@ -42,12 +34,17 @@ pub fn orohkaril_sum(
 ) -> u32
     ensures { TellsSum (sum_call left.now right.now left_c right_c out.old) result place.new len.new constant.new cancelled.new out.new }
 {
-    let summed = equation::sum(left, right, left_c, right_c, out);
+    let answer = equation::sum(left, right, left_c, right_c, out);
+    // a sum that is refused tells zeros
+    let summed = answer.unwrap_or(Summed {
+        len: 0,
+        constant: 0,
+        cancelled: 0,
+    });
     *len = summed.len;
     *constant = summed.constant;
     *cancelled = summed.cancelled;
-    let answer = summed.answer;
-    tell(answer, place)
+    tell(&answer, place)
 }
 
 // `system_check::check`: a refusal's number, 0 for yes, 6 for no.
@@ -63,10 +60,16 @@ pub fn orohkaril_check(
     ensures value { result ≡ told_number (check_call n m starts.now vars.now constants.now solution.now) }
     ensures place_after { place.new ≡ told_place (check_call n m starts.now vars.now constants.now solution.now) }
 {
-    match system_check::check(n, m, starts, vars, constants, solution) {
-        Checked::Refused(answer) => tell(answer, place),
-        Checked::Yes => tell(Answer::Solved, place),
-        Checked::No => tell(Answer::Unsolvable, place),
+    let system = System {
+        n,
+        m,
+        starts,
+        vars,
+        constants,
+    };
+    match system_check::check(&system, solution) {
+        Ok(false) => tell(&Err::<(), Refusal>(Refusal::Unsolvable), place),
+        said => tell(&said, place),
     }
 }
 
@@ -86,12 +89,16 @@ pub fn orohkaril_sparse(
     ensures tells { Tells (sparse_call n m starts.now vars.now constants.now solution.old numbers.old words.old) result place.new solution.new numbers.new words.new }
     ensures cancelled_after { cancelled.new ≡ reported (sparse_call n m starts.now vars.now constants.now solution.old numbers.old words.old).answer (sparse_cancels (equations m starts.now vars.now constants.now)) }
 {
-    let built = sparse::gaussian_elimination(
-        n, m, starts, vars, constants, solution, numbers, words,
-    );
+    let system = System {
+        n,
+        m,
+        starts,
+        vars,
+        constants,
+    };
+    let built = sparse::gaussian_elimination(&system, solution, numbers, words);
     *cancelled = built.cancelled;
-    let answer = built.answer;
-    tell(answer, place)
+    tell(&built.answer, place)
 }
 
 // `dense::dense_gaussian_elimination`.
@@ -108,8 +115,15 @@ pub fn orohkaril_dense(
 ) -> u32
     ensures { Tells (dense_call n m w rows.now constants.now solution.old numbers.old words.old) result place.new solution.new numbers.new words.new }
 {
-    let answer = dense::dense_gaussian_elimination(
-        n, m, w, rows, constants, solution, numbers, words,
-    );
-    tell(answer, place)
+    let system = DenseSystem {
+        n,
+        m,
+        w,
+        rows,
+        constants,
+    };
+    tell(
+        &dense::dense_gaussian_elimination(&system, solution, numbers, words),
+        place,
+    )
 }

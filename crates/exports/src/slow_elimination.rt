@@ -2,7 +2,8 @@
 ghost use Rattle.slow_rules.specs.SlowCall.{slow_call};
 ghost use Rattle.answers.specs.Told.{Tells};
 
-use crate::tell;
+use answers::tell;
+use dense_rows::DenseSystem;
 
 // `slow_dense::slow_gaussian_elimination`.
 pub fn orohkaril_slow(
@@ -18,8 +19,15 @@ pub fn orohkaril_slow(
 ) -> u32
     ensures { Tells (slow_call n m w rows.now constants.now solution.old numbers.old words.old) result place.new solution.new numbers.new words.new }
 {
-    let answer = slow_dense::slow_gaussian_elimination(
-        n, m, w, rows, constants, solution, numbers, words,
-    );
-    tell(answer, place)
+    let system = DenseSystem {
+        n,
+        m,
+        w,
+        rows,
+        constants,
+    };
+    tell(
+        &slow_dense::slow_gaussian_elimination(&system, solution, numbers, words),
+        place,
+    )
 }
