@@ -1,12 +1,14 @@
 -- Fronts of two stretches that change places, some elements a turn.
-use mathlib.Core.Path.{◌≡◌, refl, sym, ap, ap₂, ◌∙◌}
+use mathlib.Core.Path.{◌≡◌, sym, ap, ap₂, ◌∙◌}
 use mathlib.Core.List.{List, [], ◌∷◌, ◌++◌}
-use Prim.Native.Nat.{ℕ, ◌+◌, ◌-◌, ◌<◌, ◌≤◌}
+use Prim.Native.Nat.{ℕ, ◌+◌, ◌-◌, ◌*◌, ◌<◌, ◌≤◌}
+use borrow.Rule.Slice.PartMut.{put_mid}
 use native.Mathlib.Nat.{add-zero}
 use native.Mathlib.Omega.{arith}
-use lib.ListN.{length, get_or, set}
+use lib.ListN.{length, get_or}
 use Rattle.areas.specs.Stretch.{stretch, put, exchanged}
-use Rattle.areas.proofs.Stretch.{put_none, put_then, put_comm, put_more, set_is_put, length-put, length-stretch, stretch_none, stretch_snoc, stretch_split, stretch-put_before, stretch-put_after}
+use Rattle.areas.proofs.Stretch.{put_none, put_then, put_comm, length-put, length-stretch, stretch_none, stretch_snoc, stretch_split, stretch-put_before, stretch-put_after}
+use Rattle.areas.proofs.Parts.{put_mid_is_put}
 use Rattle.rows.specs.Front.{Exchanged}
 
 -- i of each, and then w of each behind them
@@ -35,92 +37,42 @@ exchanged_then d p q i w h g =
     behind b a c l k f = ap (λ (m : ℕ). put (b + m) c (put b a l)) (sym k) ∙ put_then b a c l (omega arith)
 
 -- none of each
-pub none_done : (d : List ℕ) (p q n : ℕ) → Exchanged d p q 0 n d 0
-none_done d p q n =
-    record { enough = omega arith; within = omega arith; done = sym (rw (stretch_none p d, stretch_none q d, put_none q d) (put_none p d)) }
+pub exchanged_none : (d : List ℕ) (p q : ℕ) → d ≡ exchanged p q 0 d
+exchanged_none d p q = sym (rw (stretch_none p d, stretch_none q d, put_none q d) (put_none p d))
 
--- the elements from i₀ up to i have changed places
-pub record Fronting (d : List ℕ) (p q n i₀ i : ℕ) (out : List ℕ) : Type 0 where
-  pub from : i₀ ≤ i
-  pub within : i ≤ n
-  pub apart : p + n ≤ q
-  pub room : q + n ≤ length d
-  pub long : length out ≡ length d
-  pub so_far : out ≡ exchanged (p + i₀) (q + i₀) (i - i₀) d
-
-pub front_begin : (d : List ℕ) (p q n i : ℕ) → i ≤ n → p + n ≤ q → q + n ≤ length d → Fronting d p q n i i d
-front_begin d p q n i k h g =
-    let e : i - i ≡ 0 = omega arith in
-    record { from = omega arith; within = k; apart = h; room = g; long = refl; so_far = rw e (none_done d (p + i) (q + i) 0).done }
-
-pub front_turn : {d : List ℕ} {p q n i₀ i r : ℕ} {out out' : List ℕ} → Fronting d p q n i₀ i out → i < n → Exchanged out (p + i) (q + i) 1 (n - i) out' r → length out' ≡ length out
-    → Fronting d p q n i₀ (i + r) out'
-front_turn {d} {p} {q} {n} {i₀} {i} {r} {out} {out'} x h y l =
-    let f = x.from in
-    let w = y.within in
-    let a = x.apart in
-    let b = x.room in
-    let ep : p + i ≡ p + i₀ + (i - i₀) = omega arith in
-    let eq : q + i ≡ q + i₀ + (i - i₀) = omega arith in
-    let er : i - i₀ + r ≡ i + r - i₀ = omega arith in
-    record {
-      from = omega arith;
-      within = omega arith;
-      apart = x.apart;
-      room = x.room;
-      long = l ∙ x.long;
-      so_far =
-          y.done
-          ∙ ap₂ (λ (u v : ℕ). exchanged u v r out) ep eq
-          ∙ ap (λ (o : List ℕ). exchanged (p + i₀ + (i - i₀)) (q + i₀ + (i - i₀)) r o) x.so_far
-          ∙ exchanged_then d (p + i₀) (q + i₀) (i - i₀) r (omega arith) (omega arith)
-          ∙ ap (λ (u : ℕ). exchanged (p + i₀) (q + i₀) u d) er;
-    }
-
-pub front_end : {d d' : List ℕ} {p q k n i₀ i : ℕ} {out : List ℕ} → Exchanged d p q 0 n d' i₀ → Fronting d' p q n i₀ i out → length d' ≡ length d → k ≤ i → Exchanged d p q k n out i
-front_end {d} {d'} {p} {q} {k} {n} {i₀} {i} x y l h =
-    let f = y.from in
-    let w = y.within in
-    let a = y.apart in
-    let b = y.room in
-    let e : i₀ + (i - i₀) ≡ i = omega arith in
-    record {
-      enough = h;
-      within = w;
-      done =
-          y.so_far
-          ∙ ap (λ (o : List ℕ). exchanged (p + i₀) (q + i₀) (i - i₀) o) x.done
-          ∙ exchanged_then d p q i₀ (i - i₀) (omega arith) (omega arith)
-          ∙ ap (λ (u : ℕ). exchanged p q u d) e;
-    }
+-- r more of each, behind i
+pub front_turn : (d : List ℕ) (p q n i r : ℕ) (out out' : List ℕ) → p + n ≤ q → q + n ≤ length d → i < n → out ≡ exchanged p q i d → Exchanged out (p + i) (q + i) 1 (n - i) out' r
+    → (i + r ≤ n) × (out' ≡ exchanged p q (i + r) d)
+front_turn d p q n i r out out' h g l e x =
+    let w = x.within in
+    (omega arith, x.done ∙ ap (exchanged (p + i) (q + i) r) e ∙ exchanged_then d p q i r (omega arith) (omega arith))
 
 -- ---- four of each, read before one is written
 
-four : ℕ → List ℕ → List ℕ
+abbrev pub four : ℕ → List ℕ → List ℕ
 four b l = get_or l b 0 ∷ get_or l (b + 1) 0 ∷ get_or l (b + 2) 0 ∷ get_or l (b + 3) 0 ∷ []
 
 four_read : (b : ℕ) (l : List ℕ) → b + 4 ≤ length l → stretch b 4 l ≡ four b l
-unfolding four
 four_read b l h =
     rw (stretch_snoc b 3 l (omega arith), stretch_snoc b 2 l (omega arith), stretch_snoc b 1 l (omega arith), stretch_snoc b 0 l (omega arith), stretch_none b l, add-zero b)
 
-four_set : (b x y z w : ℕ) (l : List ℕ) → b + 4 ≤ length l → set (set (set (set l b x) (b + 1) y) (b + 2) z) (b + 3) w ≡ put b (x ∷ y ∷ z ∷ w ∷ []) l
-four_set b x y z w l h =
-    rw (set_is_put b x l (omega arith))
-    (ap (λ (o : List ℕ). set (set o (b + 2) z) (b + 3) w) (put_more b y (x ∷ []) l (omega arith))
-    ∙ ap (λ (o : List ℕ). set o (b + 3) w) (put_more b z (x ∷ y ∷ []) l (omega arith))
-    ∙ put_more b w (x ∷ y ∷ z ∷ []) l (omega arith))
+pub four_done : (d s t : List ℕ) (p q : ℕ) → p + 4 ≤ q → q + 4 ≤ length d → s ≡ four p d → t ≡ four q d
+    → put_mid p (p + 4 - p) (put_mid q (q + 4 - q) d s) t ≡ exchanged p q 4 d
+four_done d s t p q h g es et =
+    let ep : p + 4 - p ≡ 4 = omega arith in
+    let eq : q + 4 - q ≡ 4 = omega arith in
+    let fs : s ≡ stretch p 4 d = es ∙ sym (four_read p d (omega arith)) in
+    let ft : t ≡ stretch q 4 d = et ∙ sym (four_read q d g) in
+    rw (ep, eq, fs, ft)
+    (put_mid_is_put p 4 (put_mid q 4 d (stretch p 4 d)) (stretch q 4 d) (length-stretch q 4 d g)
+    ∙ ap (put p (stretch q 4 d)) (put_mid_is_put q 4 d (stretch p 4 d) (length-stretch p 4 d (omega arith))))
 
-pub four_done : (d : List ℕ) (p q : ℕ) → p + 4 ≤ q → q + 4 ≤ length d
-    → set (set (set (set (set (set (set (set d q (get_or d p 0)) (q + 1) (get_or d (p + 1) 0)) (q + 2) (get_or d (p + 2) 0)) (q + 3) (get_or d (p + 3) 0))
-    p (get_or d q 0)) (p + 1) (get_or d (q + 1) 0)) (p + 2) (get_or d (q + 2) 0)) (p + 3) (get_or d (q + 3) 0) ≡ exchanged p q 4 d
-unfolding four
-four_done d p q h g =
-    ap (λ (o : List ℕ). set (set (set (set o p (get_or d q 0)) (p + 1) (get_or d (q + 1) 0)) (p + 2) (get_or d (q + 2) 0)) (p + 3) (get_or d (q + 3) 0))
-    (four_set q (get_or d p 0) (get_or d (p + 1) 0) (get_or d (p + 2) 0) (get_or d (p + 3) 0) d g)
-    ∙ four_set p (get_or d q 0) (get_or d (q + 1) 0) (get_or d (q + 2) 0) (get_or d (q + 3) 0) (put q (four p d) d) (omega (arith, length-put q (four p d) d g))
-    ∙ ap₂ (λ (x y : List ℕ). put p x (put q y d)) (sym (four_read q d g)) (sym (four_read p d (omega arith)))
-
--- the same twice, one behind the other
-pub twice_done : (w : ℕ) (d e f : List ℕ) (p q : ℕ) → p + (w + w) ≤ q → q + (w + w) ≤ length d → e ≡ exchanged p q w d → f ≡ exchanged (p + w) (q + w) w e → f ≡ exchanged p q (w + w) d
-twice_done w d e f p q h g ee ef = ef ∙ ap (exchanged (p + w) (q + w) w) ee ∙ exchanged_then d p q w w h g
+-- .. and four more, behind k fours
+pub one_more_four : (d e f : List ℕ) (p q k n : ℕ) → k < n → p + 4 * n ≤ q → q + 4 * n ≤ length d → e ≡ exchanged p q (4 * k) d → f ≡ exchanged (p + 4 * k) (q + 4 * k) 4 e
+    → f ≡ exchanged p q (4 * (k + 1)) d
+one_more_four d e f p q k n l h g ee ef =
+    let next : 4 * k + 4 ≡ 4 * (k + 1) = omega arith in
+    ef
+    ∙ ap (exchanged (p + 4 * k) (q + 4 * k) 4) ee
+    ∙ exchanged_then d p q (4 * k) 4 (omega arith) (omega arith)
+    ∙ ap (λ (w : ℕ). exchanged p q w d) next

@@ -1,23 +1,23 @@
 -- What `swap_rows` asks for and leaves, in the values that it reads.
 use mathlib.Core.Path.{◌≡◌}
 use mathlib.Core.List.{List}
-use Prim.Native.Nat.{ℕ, ◌+◌, ◌*◌, ◌≤◌, ◌<◌}
+use Prim.Native.Nat.{ℕ, ◌+◌, ◌*◌, ◌≤◌, ◌<◌, max}
 use native.Mathlib.Omega.{arith}
 use lib.ListN.{length, get_or, set, length-set}
 use Rattle.areas.proofs.Offsets.{row_before}
 use Rattle.gf2.specs.Equation.{Equation}
 use Rattle.rows.specs.Front.{Exchanged}
-use Rattle.rows.specs.Picture.{Drawn, Longer, swapped}
+use Rattle.rows.specs.Picture.{Drawn, swapped}
 use Rattle.rows.proofs.Holding.{row_narrow, row_length, row_constant, exchange_rows}
 
 module _ {n m : ℕ} {rows : List Equation} {rest rest' numbers words : List ℕ} (d : Drawn n m rows rest rest' numbers words) (i j k : ℕ) (h : i < j) (l : j < m)
-    (longer : Longer (get_or numbers (m * n + n + i) 0) (get_or numbers (m * n + n + j) 0) k) where
+    (longer : k ≡ max (get_or numbers (m * n + n + i) 0) (get_or numbers (m * n + n + j) 0)) where
   i_in : i < m
   i_in = omega arith
 
   -- no row is longer than n
   narrow : k ≤ n
-  narrow = longer.least n (omega (arith, row_length d i i_in, row_narrow d i i_in)) (omega (arith, row_length d j l, row_narrow d j l))
+  narrow = omega (arith, longer, row_length d i i_in, row_narrow d i i_in, row_length d j l, row_narrow d j l)
 
   pub swap_length : length (set (set numbers (m * n + n + i) (get_or numbers (m * n + n + j) 0)) (m * n + n + j) (get_or numbers (m * n + n + i) 0)) ≡ length numbers
   swap_length = simp length-set
@@ -32,4 +32,4 @@ module _ {n m : ℕ} {rows : List Equation} {rest rest' numbers words : List ℕ
       let a = row_length d i i_in in
       let b = row_length d j l in
       rw (x.done, a, b, row_constant d i i_in, row_constant d j l)
-      (exchange_rows d i j r h l (omega (arith, longer.left, x.enough)) (omega (arith, longer.right, x.enough)) x.within)
+      (exchange_rows d i j r h l (omega (arith, longer, x.enough)) (omega (arith, longer, x.enough)) x.within)

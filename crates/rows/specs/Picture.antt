@@ -65,12 +65,6 @@ Became n m numbers words rows numbers' words' = Drawn n m rows (drop (row_number
 abbrev pub row_at : List Equation → ℕ → Equation
 row_at rows i = get_or rows i (eqn [] 0)
 
--- r is the longer of the lengths a and b
-pub record Longer (a b r : ℕ) : Type 0 where
-  pub left : a ≤ r
-  pub right : b ≤ r
-  pub least : (n : ℕ) → a ≤ n → b ≤ n → r ≤ n
-
 -- rows i and j have changed places
 abbrev pub swapped : ℕ → ℕ → List Equation → List Equation
 swapped i j rows = set (set rows i (row_at rows j)) j (row_at rows i)

@@ -7,7 +7,7 @@ ghost use Rattle.answers.specs.Sizes.{max_variables, row_numbers, row_words};
 ghost use Rattle.gf2.specs.Equation.{eqn, Rising};
 ghost use Rattle.gf2.specs.Common.{common};
 ghost use Rattle.rows.specs.Padding.{PaddedRows};
-ghost use Rattle.rows.specs.Picture.{Longer, Held, Became, rows_of, row_at, swapped, added};
+ghost use Rattle.rows.specs.Picture.{Held, Became, rows_of, row_at, swapped, added};
 
 mod counted;
 mod front;
@@ -69,16 +69,6 @@ pub fn store_row(
     words[i] = c;
 }
 
-// The longer of two lengths.
-fn longer(a: u32, b: u32) -> usize
-    ensures { Longer a b result }
-{
-    if a < b {
-        return b as usize;
-    }
-    a as usize
-}
-
 // Rows `i` and `j`, of which `i` comes first, change places: as many numbers as the longer row has, and perhaps zeros behind them.
 pub fn swap_rows(numbers: &mut [u32], words: &mut [u64], n: usize, m: usize, i: usize, j: usize)
     requires { Held n m numbers.old words.old × (i < j) × (j < m) }
@@ -87,9 +77,10 @@ pub fn swap_rows(numbers: &mut [u32], words: &mut [u64], n: usize, m: usize, i: 
     let lens = m * n + n;
     let li = numbers[lens + i];
     let lj = numbers[lens + j];
-    let k = longer(li, lj);
+    let k = li.max(lj) as usize;
     numbers[lens + i] = lj;
     numbers[lens + j] = li;
+    // By hand: the library's `swap` tells its indices apart first, which costs the solvers 2 to 4 percent more instructions.
     let c = words[i];
     words[i] = words[j];
     words[j] = c;
@@ -116,6 +107,6 @@ pub fn add_rows(
     let both = li + lj;
     let k = row_sums::add_into(numbers, n, i * n, li as usize, j * n, lj as usize, m * n);
     numbers[lens + i] = k as u32;
-    words[i] = words[i] ^ words[j];
+    words[i] ^= words[j];
     fallen + both as u64 - k as u64
 }
