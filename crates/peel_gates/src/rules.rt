@@ -1,5 +1,5 @@
 // What is refused before the run.
-ghost use Rattle.std.specs.Prelude.{◌≡◌, length, not, position};
+ghost use Rattle.std.specs.Prelude.{◌≡◌, ◌<◌, length, MatchOption};
 ghost use Rattle.peel_rules.specs.Edges.{is_valid, bad_edge};
 ghost use Rattle.peel_gates.specs.Gates.{gate_of, gate_by};
 
@@ -21,7 +21,7 @@ pub fn keeps_rule(n: usize, e: Edge) -> bool
 
 // The lowest edge that breaks its rule.
 pub fn bad_edge(n: usize, edges: &[Edge]) -> Option<usize>
-    ensures { result ≡ position (λ e. not (is_valid n e)) edges.now }
+    ensures { MatchOption result (bad_edge n edges.now ≡ length edges.now) (λ i. (bad_edge n edges.now ≡ i) × (i < length edges.now)) }
 {
     edges.iter().position(|e| !keeps_rule(n, *e))
 }
