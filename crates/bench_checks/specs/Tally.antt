@@ -3,6 +3,19 @@ use Rattle.std.specs.Prelude.{ℕ, ◌+◌, ◌*◌, ◌%◌, ◌^◌, Bool, Lis
 use Rattle.answers.specs.Calls.{pick}
 use Rattle.answers.specs.Numbers.{number_of}
 use Rattle.answers.specs.Answers.{Answer}
+use Rattle.bench_checks.specs.declared.tally.Caller.{Caller}
+use Rattle.bench_checks.specs.declared.tally.Caller.TheVariants.{Sparse, Dense, Lazy, Check, High, Low, Lookup, Slow}
+
+-- the row of what gave an answer
+abbrev pub row_of : Caller → ℕ
+row_of Sparse = 0
+row_of Dense = 1
+row_of Lazy = 2
+row_of Check = 3
+row_of High = 4
+row_of Low = 5
+row_of Lookup = 6
+row_of Slow = 7
 
 -- one more in a cell; a count past a 64-bit word begins anew
 unfoldable pub one_more : ℕ → List ℕ → List ℕ

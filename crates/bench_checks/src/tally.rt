@@ -1,54 +1,103 @@
 // Answers and comparisons, counted.
-ghost use Rattle.std.specs.Prelude.{◌≡◌, ◌<◌};
-ghost use Rattle.bench_checks.specs.Tally.{one_more, counted_in, held_to};
+ghost use Rattle.std.specs.Prelude.{◌≡◌, ◌≤◌, ◌<◌, ◌+◌, ◌*◌, slice_index, replicate};
+ghost use Rattle.answers.specs.Answers.{answer_by};
+ghost use Rattle.bench_checks.specs.Tally.{row_of, one_more, counted_in, held_to};
 
-use answers::Answer;
-use std::num::wrapping_add_u64;
+use answers::Numbered;
 
-// The rows of a tally: what gave the answer.
-pub const SPARSE: usize = 0;
+// What gave an answer.
+#[derive(Clone, Copy, PartialEq, Debug)]
+pub enum Caller {
+    Sparse,
+    Dense,
+    Lazy,
+    Check,
+    High,
+    Low,
+    Lookup,
+    Slow,
+}
 
-pub const DENSE: usize = 1;
+impl Caller {
+    fn row(self) -> usize
+        ensures value { result ≡ row_of self }
+        ensures few { result < 8 }
+    {
+        match self {
+            Caller::Sparse => 0,
+            Caller::Dense => 1,
+            Caller::Lazy => 2,
+            Caller::Check => 3,
+            Caller::High => 4,
+            Caller::Low => 5,
+            Caller::Lookup => 6,
+            Caller::Slow => 7,
+        }
+    }
+}
 
-pub const LAZY: usize = 2;
+// How often each caller gave each number, then the comparisons made, and those that found a difference.
+#[derive(Drop)]
+pub struct Tally {
+    pub counts: [u64; 90],
+}
 
-pub const CHECK: usize = 3;
-
-pub const HIGH: usize = 4;
-
-pub const LOW: usize = 5;
-
-pub const LOOKUP: usize = 6;
-
-pub const SLOW: usize = 7;
-// The columns: the answers' numbers, 0 to 10.
+// The columns of a caller: the answers' numbers, 0 to 10.
 pub const NUMBERS: usize = 11;
-// What follows the rows: comparisons made, and those that found a difference.
-pub const COMPARED: usize = 88;
 
-pub const DIFFERENT: usize = 89;
+const COMPARED: usize = 88;
 
-fn add_one(tally: &mut [u64; 90], k: usize)
-    requires { k < 90 }
-    ensures { tally.new ≡ one_more k tally.old }
-{
-    tally[k] = wrapping_add_u64(tally[k], 1);
-}
+const DIFFERENT: usize = 89;
 
-// Counts an answer in a row.
-pub fn count(tally: &mut [u64; 90], row: usize, answer: Answer)
-    requires { row < 8 }
-    ensures { tally.new ≡ counted_in row answer tally.old }
-{
-    add_one(tally, row * NUMBERS + answer.number() as usize);
-}
+impl Tally {
+    pub fn new() -> Tally
+        ensures { result.counts ≡ replicate 90 0 }
+    {
+        Tally { counts: [0; 90] }
+    }
 
-// Counts a comparison, and whether it found what it should.
-pub fn hold(tally: &mut [u64; 90], good: bool)
-    ensures { tally.new ≡ held_to good tally.old }
-{
-    add_one(tally, COMPARED);
-    if !good {
-        add_one(tally, DIFFERENT);
+    #[tactic(auto, unfolding(crate::specs::Tally::one_more))]
+    fn add_one(&mut self, k: usize)
+        requires { k < 90 }
+        ensures { self.new.counts ≡ one_more k self.old.counts }
+    {
+        self.counts[k] = self.counts[k].wrapping_add(1);
+    }
+
+    // Counts an answer.
+    pub fn count<T, E: Numbered>(&mut self, caller: Caller, answer: &Result<T, E>)
+        ensures { self.new.counts ≡ counted_in (row_of caller) (answer_by E.answer answer.now) self.old.counts }
+    {
+        self.add_one(caller.row() * NUMBERS + answers::number(answer) as usize);
+    }
+
+    // Counts a comparison, and whether it found what it should.
+    pub fn hold(&mut self, good: bool)
+        ensures { self.new.counts ≡ held_to good self.old.counts }
+    {
+        self.add_one(COMPARED);
+        if !good {
+            self.add_one(DIFFERENT);
+        }
+    }
+
+    // How often the caller gave the number.
+    pub fn times(&self, caller: Caller, number: usize) -> u64
+        requires { number < 11 }
+        ensures { result ≡ slice_index self.now.counts (row_of caller * 11 + number) }
+    {
+        self.counts[caller.row() * NUMBERS + number]
+    }
+
+    pub fn compared(&self) -> u64
+        ensures { result ≡ slice_index self.now.counts 88 }
+    {
+        self.counts[COMPARED]
+    }
+
+    pub fn different(&self) -> u64
+        ensures { result ≡ slice_index self.now.counts 89 }
+    {
+        self.counts[DIFFERENT]
     }
 }
