@@ -1,23 +1,33 @@
 -- A peeler's call: what is refused before the run, and what the run leaves.
-use mathlib.Core.Path.{◌≡◌, refl, sym, ap, ◌∙◌, subst}
+use mathlib.Core.Path.{◌≡◌, refl, sym, ap, ◌∙◌}
 use mathlib.Core.List.{List}
 use mathlib.Core.Bool.{Bool, true, false, ◌&&◌, true≢false}
 use Prim.Native.Nat.{ℕ}
 use lib.ListN.{length}
+use Rattle.std.specs.Prelude.{Result, Ok, Err}
+use Rattle.std.specs.Result.{IsErrAnd}
 use lib.Dec.{eqb, leb, ltb}
 use borrow.Author.Tests.{leb-true, ltb-false, eqb-true}
+use Rattle.answers.specs.Answers.{refusal_of}
+use Rattle.answers.specs.declared.refusal.Refusal.{Refusal}
+use Rattle.answers.specs.declared.refusal.Unpeeled.{Unpeeled}
+use Rattle.answers.specs.declared.refusal.Unpeeled.TheVariants.{Refused}
 use Rattle.answers.specs.Sizes.{max_variables, max_equations}
 use Rattle.peeling.specs.declared.numbers.Edge.{Edge}
 use Rattle.peel_rules.specs.Edges.{bad_edge}
 use Rattle.peel_rules.proofs.PeelTheorems.{all_valid}
-use Rattle.peel_gates.specs.declared.ends.Peeling.{Peeling}
-use Rattle.peel_gates.specs.declared.rules.Gate.{Gate}
+use Rattle.peel_gates.specs.Ends.{Peeling, peeling_of}
 use Rattle.peel_gates.specs.Rooms.{numbers_room, bytes_room}
-use Rattle.peel_gates.specs.Gates.{gate_of}
+use Rattle.peel_gates.specs.Gates.{Gate, gate_of, shut, unrefused}
 use Rattle.peel_parts.specs.Parts.{Admitted}
 use Rattle.peel_runs.specs.Runs.{Leaves, run_call}
 use Rattle.peel_runs.proofs.RunLaws.{leaves}
-use Rattle.peel_calls.specs.Judging.{Judged, peeling_call}
+use Rattle.peel_calls.specs.Judging.{peeling_call}
+
+-- a refusal that `?` hands on
+handed_on : (r : Refusal) (x : Result (Unit {0}) Unpeeled) → IsErrAnd x (λ u. u ≡ Refused r) → (shut (refusal_of r)).refusal ≡ peeling_of x
+handed_on r (Ok y) e = absurd e
+handed_on r (Err u) e = ap (λ (z : Unpeeled). peeling_of {A = Unit {0}} (Err z)) (sym e)
 
 both : (a b : Bool) → (a && b) ≡ true → (a ≡ true) × (b ≡ true)
 both true b h = (refl, h)
@@ -37,13 +47,13 @@ module _ (high : Bool) (n : ℕ) (T : List Edge) (cells numbers bytes : List ℕ
   room = leb (numbers_room high n (length T)) (length numbers) && leb (bytes_room high n (length T)) (length bytes)
 
   -- a call that is not refused is admitted, and its run is the call
-  pub let_in : gate.opened ≡ true → Admitted high n (length T) T cells numbers bytes
+  let_in : gate.opened ≡ true → Admitted high n T cells numbers bytes
       × ((r : Peeling) (x d b : List ℕ) → Leaves (run_call high n T cells numbers bytes) r x d b → Leaves (peeling_call high n T cells numbers bytes) r x d b)
   unfolding peeling_call run_call
   let_in h = go sizes refl bad refl (eqb (length cells) n) refl room refl h
     where
       go : (p : Bool) → sizes ≡ p → (q : Bool) → bad ≡ q → (t : Bool) → eqb (length cells) n ≡ t → (u : Bool) → room ≡ u → gate.opened ≡ true
-          → Admitted high n (length T) T cells numbers bytes × ((r : Peeling) (x d b : List ℕ) → Leaves (run_call high n T cells numbers bytes) r x d b → Leaves (peeling_call high n T cells numbers bytes) r x d b)
+          → Admitted high n T cells numbers bytes × ((r : Peeling) (x d b : List ℕ) → Leaves (run_call high n T cells numbers bytes) r x d b → Leaves (peeling_call high n T cells numbers bytes) r x d b)
       go false hp q hq t ht u hu o = let k : ◌≡◌ {A = Bool} false true = rw hp at o in absurd (true≢false (sym k))
       go true hp true hq t ht u hu o = let k : ◌≡◌ {A = Bool} false true = rw (hp, hq) at o in absurd (true≢false (sym k))
       go true hp false hq false ht u hu o = let k : ◌≡◌ {A = Bool} false true = rw (hp, hq, ht) at o in absurd (true≢false (sym k))
@@ -58,7 +68,6 @@ module _ (high : Bool) (n : ℕ) (T : List Edge) (cells numbers bytes : List ℕ
                 numbers_room = leb-true (numbers_room high n (length T)) (length numbers) y.0;
                 bytes_room = leb-true (bytes_room high n (length T)) (length bytes) y.1;
               };
-              all = refl;
               valid = all_valid n T (ltb-false (bad_edge n T) (length T) hq);
               size = eqb-true (length cells) n ht;
             },
@@ -66,7 +75,7 @@ module _ (high : Bool) (n : ℕ) (T : List Edge) (cells numbers bytes : List ℕ
           )
 
   -- a call that is refused leaves everything as lent
-  pub turned_away : (r : Peeling) → gate.opened ≡ false → r ≡ gate.refusal → Leaves (peeling_call high n T cells numbers bytes) r cells numbers bytes
+  turned_away : (r : Peeling) → gate.opened ≡ false → r ≡ gate.refusal → Leaves (peeling_call high n T cells numbers bytes) r cells numbers bytes
   unfolding peeling_call
   turned_away r h e = go sizes refl bad refl (eqb (length cells) n) refl room refl h e
     where
@@ -78,24 +87,13 @@ module _ (high : Bool) (n : ℕ) (T : List Edge) (cells numbers bytes : List ℕ
       go true hp false hq true ht false hu o k = rw (hp, hq, ht, hu) (leaves (ap (λ (y : Peeling). y.answer) (rw (hp, hq, ht, hu) at k)) (ap (λ (y : Peeling). y.report) (rw (hp, hq, ht, hu) at k)) refl refl refl)
       go true hp false hq true ht true hu o k = let z : ◌≡◌ {A = Bool} true false = rw (hp, hq, ht, hu) at o in absurd (true≢false z)
 
--- ---- as the call meets them, with its count of the edges
+  -- ---- as the code's gate gives them
 
-pub judged : (high : Bool) (n : ℕ) (T : List Edge) (cells numbers bytes : List ℕ) {m low : ℕ} {g : Gate} → m ≡ length T → low ≡ bad_edge n T
-    → g ≡ gate_of high n m low (length cells) (length numbers) (length bytes) → Judged high n m g T cells numbers bytes
-judged high n T cells numbers bytes {m} {low} all lowest e = record {
-  all = all;
-  gate = e ∙ ap (λ (k : ℕ). gate_of high n k low (length cells) (length numbers) (length bytes)) all ∙ ap (λ (k : ℕ). gate_of high n (length T) k (length cells) (length numbers) (length bytes)) lowest;
-}
+  pub admitted : unrefused ≡ gate → Admitted high n T cells numbers bytes
+  admitted e = (let_in (sym (ap (λ (y : Gate). y.opened) e))).0
 
-module _ {high : Bool} {n m : ℕ} {g : Gate} {T : List Edge} {cells numbers bytes : List ℕ} (j : Judged high n m g T cells numbers bytes) where
-  is : {b : Bool} → g.opened ≡ b → (gate_of high n (length T) (bad_edge n T) (length cells) (length numbers) (length bytes)).opened ≡ b
-  is q = sym (ap (λ (f : Gate). f.opened) j.gate) ∙ q
+  pub run_is_call : unrefused ≡ gate → {r : Peeling} {x d b : List ℕ} → Leaves (run_call high n T cells numbers bytes) r x d b → Leaves (peeling_call high n T cells numbers bytes) r x d b
+  run_is_call e {r} {x} {d} {b} l = (let_in (sym (ap (λ (y : Gate). y.opened) e))).1 r x d b l
 
-  pub run_asks : g.opened ≡ true → Admitted high n m T cells numbers bytes
-  run_asks q = subst (λ (k : ℕ). Admitted high n k T cells numbers bytes) (sym j.all) (let_in high n T cells numbers bytes (is q)).0
-
-  pub run_leaves : g.opened ≡ true → {r : Peeling} {x d b : List ℕ} → Leaves (run_call high n T cells numbers bytes) r x d b → Leaves (peeling_call high n T cells numbers bytes) r x d b
-  run_leaves q {r} {x} {d} {b} l = (let_in high n T cells numbers bytes (is q)).1 r x d b l
-
-  pub refusal_leaves : g.opened ≡ false → Leaves (peeling_call high n T cells numbers bytes) g.refusal cells numbers bytes
-  refusal_leaves q = turned_away high n T cells numbers bytes g.refusal (is q) (ap (λ (f : Gate). f.refusal) j.gate)
+  pub refusal_is_call : (r : Refusal) (x : Result (Unit {0}) Unpeeled) → shut (refusal_of r) ≡ gate → IsErrAnd x (λ u. u ≡ Refused r) → Leaves (peeling_call high n T cells numbers bytes) (peeling_of x) cells numbers bytes
+  refusal_is_call r x e h = turned_away (peeling_of x) (sym (ap (λ (y : Gate). y.opened) e)) (sym (handed_on r x h) ∙ ap (λ (y : Gate). y.refusal) e)

@@ -1,42 +1,16 @@
--- The loops over the table that check the edges, take them in, and fill their cells.
-use Rattle.std.proofs.Common.{◌≡◌, refl, sym, ap, ◌∙◌, List, [], ◌∷◌, Bool, true, false, not, cond, ℕ, zero, suc, ◌+◌, ◌-◌, ◌≤◌, ◌<◌, ltb, length, get_or, drop, Option, Some, None, arith, add-one}
-use Rattle.std.specs.Option.{unwrap_or}
-use Rattle.std.specs.List.{position_or_len}
-use Rattle.std.proofs.lemmas.List.Recursion.{is_position_or_len}
-use Rattle.std.proofs.lemmas.List.Sums.{prefix_len-le-length}
+-- The loops over the table that take the edges in and fill their cells.
+use Rattle.std.proofs.Common.{◌≡◌, refl, sym, ap, ◌∙◌, List, [], ◌∷◌, Bool, ℕ, zero, suc, ◌+◌, ◌-◌, ◌≤◌, ◌<◌, length, get_or, drop, Option, arith, add-one}
 use lib.Seq.{drop-length}
-use borrow.Author.Tests.{ltb-false}
 use Rattle.gf2.specs.Equation.{Each}
 use Rattle.peeling.specs.declared.numbers.Edge.{Edge}
 use Rattle.peeling.specs.declared.numbers.Vertex.{Vertex}
 use Rattle.peeling.specs.Graph.{graph_of}
-use Rattle.peel_rules.specs.Edges.{Valid, is_valid, bad_edge}
+use Rattle.peel_rules.specs.Edges.{Valid}
 use Rattle.peel_rules.specs.Peel.{fill, fill_one}
 use Rattle.peel_rules.specs.Machine.{no_edge, side_from, add_edge, build, noted_edge, crowd_of}
 use Rattle.peel_steps.specs.Lowest.{vertex_or}
 use Rattle.peel_steps.specs.Pictures.{number_at, side_no_at, peeled_in}
 use Rattle.walk_rules.proofs.Loops.{drop_at}
-
--- ---- the lowest edge that does not keep its rule
-
-bad_edge_is : (n : ℕ) (T : List Edge) → bad_edge n T ≡ position_or_len (λ e. not (is_valid n e)) T
-unfolding bad_edge
-bad_edge_is n T = is_position_or_len (bad_edge n) (λ e. not (is_valid n e)) refl (λ e es. step (is_valid n e) (bad_edge n es)) T
-  where
-    step : (b : Bool) (k : ℕ) → cond b (suc k) 0 ≡ cond (not b) 0 (1 + k)
-    step true k = omega arith
-    step false k = refl
-
-pub bad_edge_found : (n : ℕ) (T : List Edge) (r : Option ℕ) → r ≡ cond (ltb (position_or_len (λ e. not (is_valid n e)) T) (length T)) (Some (position_or_len (λ e. not (is_valid n e)) T)) None
-    → unwrap_or r (length T) ≡ bad_edge n T
-bad_edge_found n T r h = rw (h, bad_edge_is n T) (go (ltb first (length T)) refl)
-  where
-    first : ℕ
-    first = position_or_len (λ e. not (is_valid n e)) T
-
-    go : (b : Bool) → ltb first (length T) ≡ b → unwrap_or (cond b (Some first) None) (length T) ≡ first
-    go true q = refl
-    go false q = omega (arith, ltb-false first (length T) q, prefix_len-le-length (λ e. not (not (is_valid n e))) T)
 
 -- ---- an edge of a table that keeps its rule
 pub valid_at : {n : ℕ} (T : List Edge) (i : ℕ) → Each (Valid n) T → i < length T → Valid n (get_or T i no_edge)

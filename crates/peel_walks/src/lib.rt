@@ -1,5 +1,4 @@
 // The loops over a lent table of edges.
 #![tactic(auto)]
 
-pub mod table; // the edges that are lent
 pub mod loops; // the graph's making, the peeling, and the filling

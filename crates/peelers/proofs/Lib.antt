@@ -1,3 +1,1 @@
-pub mod EitherCall
-pub mod ProgramLaws
 pub mod Examples

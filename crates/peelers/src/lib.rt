@@ -2,4 +2,3 @@
 #![tactic(auto)]
 
 pub mod calls; // the peelers
-pub mod programs; // the peelers for programs
