@@ -15,8 +15,18 @@ use Rattle.rows.specs.Picture.{Kept, Held, rows_of}
 use Rattle.rows.proofs.Holding.{rest_kept, rows_are, held}
 use Rattle.sparse_rules.specs.Eliminate.{contradicted, back_sub, finish, echelon_form, gaussian_elimination}
 use Rattle.sparse_rows.specs.Reduce.{ReducedBy, refused, reduced, FinishedBy, left, filled}
-use Rattle.sparse_rows.specs.Reduction.{Reduction}
-use Rattle.sparse_rows.specs.Reduction.{Unsolvable, Reduced}
+use Rattle.std.specs.Prelude.{Ok, Err, is_err}
+use Rattle.sparse_rows.specs.Reduction.{Reduction, Unsolvable, Reduced, Outcome, reduction_of}
+
+-- ---- the result of the code, by the library's test
+
+pub error_refused : (r : Outcome) → is_err r ≡ true → reduction_of r ≡ Unsolvable
+error_refused (Ok x) e = absurd (cc)
+error_refused (Err x) e = refl
+
+pub no_error_reduced : (r : Outcome) → is_err r ≡ false → reduction_of r ≡ Reduced
+no_error_reduced (Ok x) e = refl
+no_error_reduced (Err x) e = absurd (cc)
 
 -- ---- the end of the rows
 

@@ -6,6 +6,9 @@ pub data Reduction : Type 0 where
   Unsolvable : Reduction
   Reduced : Reduction
 
-abbrev pub reduction_of : Result (Unit {0}) NoValues → Reduction
+abbrev pub Outcome : Type 0
+Outcome = Result (Unit {0}) NoValues
+
+abbrev pub reduction_of : Outcome → Reduction
 reduction_of (Ok x) = Reduced
 reduction_of (Err e) = Unsolvable

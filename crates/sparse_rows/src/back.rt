@@ -23,12 +23,10 @@ pub fn any_unsolvable(numbers: &[u32], words: &[u64], n: usize, m: usize, d: usi
     requires { Held n m numbers.now words.now × (d ≤ m) }
     ensures { result ≡ contradicted (take d (rows_of n m numbers.now words.now)) }
 {
-    let mut i = 0;
-    while i < d {
+    for i in 0..d {
         if is_unsolvable(numbers, words, n, m, i) {
             return true;
         }
-        i += 1;
     }
     false
 }
@@ -60,10 +58,8 @@ pub fn back_substitution(
     requires { Held n m numbers.now words.now × (d ≤ m) × (length solution.old ≡ n) }
     ensures { solution.new ≡ back_sub (take d (rows_of n m numbers.now words.now)) solution.old }
 {
-    let mut i = d;
-    while 0 < i {
-        pin_row(numbers, words, n, m, i - 1, solution);
-        i -= 1;
+    for i in (0..d).rev() {
+        pin_row(numbers, words, n, m, i, solution);
     }
 }
 

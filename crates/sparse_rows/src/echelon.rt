@@ -92,8 +92,7 @@ fn pass_rows(
 {
     let lens = m * n + n;
     let mut u = numbers[i * n];
-    let mut k = j;
-    while k < d {
+    for k in j..d {
         let v = numbers[k * n];
         if v <= u {
             if v == u {
@@ -105,9 +104,8 @@ fn pass_rows(
             rows::swap_rows(numbers, words, n, m, i, k);
             u = v;
         }
-        k += 1;
     }
-    k
+    d
 }
 
 // One outer row: row `i` meets each later row of the first `d`.
@@ -137,6 +135,7 @@ pub fn outer_row(
     }
     let mut j = pass_rows(numbers, words, n, m, d, i, i + 1);
     let mut fallen = 0u64;
+    // Not a `for`: how far `j` goes on is handed back by the passing of rows.
     while j < d {
         let e = meet_rows(numbers, words, n, m, i, j, fallen);
         fallen = e.fallen;
@@ -176,18 +175,14 @@ pub fn echelon_form(
     ensures cancelled_value { result.cancelled ≡ sparse_cancels (take d (rows_of n m numbers.old words.old)) }
 {
     let mut cancelled = 0u64;
-    let mut i = 0;
-    while i + 1 < d {
+    for i in 0..d.saturating_sub(1) {
         let row = outer_row(numbers, words, n, m, d, i);
         cancelled += row.cancelled;
-        match row.end {
-            Err(Unsolvable) => {
-                return Counted {
-                    end: Err(Unsolvable),
-                    cancelled,
-                };
-            }
-            Ok(()) => i += 1,
+        if row.end.is_err() {
+            return Counted {
+                end: row.end,
+                cancelled,
+            };
         }
     }
     Counted {
