@@ -1,2 +1,1 @@
 pub mod GateLaws
-pub mod RoomLaws

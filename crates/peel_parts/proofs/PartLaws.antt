@@ -4,6 +4,7 @@ use mathlib.Core.List.{List, [], ◌∷◌, ◌++◌, append-nil}
 use mathlib.Core.Bool.{Bool, true, false, cond}
 use Rattle.std.proofs.Common.{Option, Some, None, IfSome, ◌⊎◌, inl, inr, length-append, length-drop}
 use Prim.Native.Nat.{ℕ, suc, ◌+◌, ◌≤◌, ◌<◌}
+use native.Mathlib.Nat.{sub-zero}
 use native.Mathlib.Omega.{arith}
 use lib.ListN.{length, take, drop, replicate, length-replicate}
 use lib.Seq.{take_at, drop_at, drop-length, length-take-le}
@@ -31,7 +32,7 @@ use Rattle.peel_turns.specs.Steps.{Preloaded}
 use Rattle.peel_gates.specs.Rooms.{Lent}
 use Rattle.peel_gates.specs.Ends.{end_of}
 use Rattle.peel_turns.proofs.PictureLaws.{drop_agrees}
-use Rattle.peel_gates.proofs.RoomLaws.{zeroed_cleared}
+use Rattle.areas.proofs.Stretch.{cleared_is_put}
 use Rattle.peel_steps.specs.Lowest.{vertex_or}
 use Rattle.peel_walks.specs.Walks.{PeelStarts, PeelEnds}
 use Rattle.peel_walks.proofs.TableLaws.{valid_more}
@@ -177,7 +178,7 @@ module _ {high : Bool} {n count : ℕ} {T : List Edge} {cells numbers bytes : Li
 
   zeros : zeroed 0 n cells ≡ replicate n 0
   unfolding cleared
-  zeros = zeroed_cleared {k = n} cells refl ∙ ap (λ (l : List ℕ). replicate n 0 ++ l) (subst (λ (j : ℕ). drop j cells ≡ []) a.fills.size (drop-length cells)) ∙ append-nil (replicate n 0)
+  zeros = rw (sub-zero n) (sym (cleared_is_put n cells) ∙ ap (λ (l : List ℕ). replicate n 0 ++ l) (subst (λ (j : ℕ). drop j cells ≡ []) a.fills.size (drop-length cells)) ∙ append-nil (replicate n 0))
 
   pub settled : {r : Peeling} {x : List ℕ} → x ≡ cells_after high n T (length T) count cells numbers bytes → r ≡ end_of (length T) count → Says (ran_says high n T cells) r x
   unfolding answer ran_says cells_after
