@@ -1,58 +1,36 @@
-// A case by its kind.
-ghost use Rattle.std.specs.Prelude.{◌<◌, ◌≤◌};
-
+// The cases, one after the other: a byte for the kind, two for the length of the lists, the low one first, and the lists.
+use crate::counts::Counts;
+use crate::kinds::Kind;
 use replay_cases::said::Verdict;
-use replay_graphs::graphs::graph_case;
-use replay_graphs::pushes::stack_case;
-use replay_peels::peels::peel_case;
-use replay_solvers::checks::check_case;
-use replay_solvers::denses::dense_case;
-use replay_solvers::sums::sum_case;
-use replay_solvers::systems::system_case;
+use std::io::Read;
 
-// The number of standard input.
-pub const STDIN: i32 = 0;
-
-// The kinds, in the order in which they are told; any other byte is one more.
-pub const KINDS: usize = 10;
-
-pub fn kind_of(byte: u8) -> usize
-    ensures { result ≤ 10 }
-{
-    if 10 < byte {
-        return KINDS;
+// One more case; says whether another may follow.
+fn replay_next<R: Read>(input: &mut R, counts: &mut Counts) -> bool {
+    let mut byte = [0u8; 1];
+    if input.read_exact(&mut byte).is_err() {
+        return false;
     }
-    byte as usize
-}
-
-// The length of a case's lists, its low byte first.
-pub fn length_of(low: u8, high: u8) -> usize
-    ensures { result < 65536 }
-{
-    low as usize + 256 * (high as usize)
-}
-
-fn replay_case(kind: usize, bytes: &[u8]) -> Verdict {
-    match kind {
-        0 => sum_case(bytes),
-        1 => check_case(bytes),
-        2 => system_case(false, bytes),
-        3 => system_case(true, bytes),
-        4 => dense_case(bytes),
-        5 => peel_case(true, bytes),
-        6 => peel_case(false, bytes),
-        7 => graph_case(bytes),
-        8 => stack_case(false, bytes),
-        9 => stack_case(true, bytes),
+    let kind = Kind::try_from(byte[0]);
+    let mut length = [0u8; 2];
+    if input.read_exact(&mut length).is_err() {
+        counts.count(kind, Verdict::Different);
+        return false;
+    }
+    let mut cells = [0u8; 65536];
+    let body = &mut cells[..usize::from(u16::from_le_bytes(length))];
+    let verdict = match (input.read_exact(body), kind) {
+        (Ok(()), Ok(kind)) => kind.replay(body),
         _ => Verdict::Different,
-    }
+    };
+    counts.count(kind, verdict);
+    true
 }
 
-// Reads the lists of a case into `body`, and replays it.
-pub fn replay_read(kind: usize, body: &mut [u8]) -> Verdict {
-    let got = io::read_full(STDIN, body);
-    if got < body.len() {
-        return Verdict::Different;
+pub fn replay_all<R: Read>(input: &mut R, counts: &mut Counts) {
+    // No file has more cases than turns.
+    for _ in 0..1_000_000 {
+        if !replay_next(input, counts) {
+            return;
+        }
     }
-    replay_case(kind, body)
 }

@@ -1,51 +1,86 @@
-// How many cases came to what, four numbers a kind.
-ghost use Rattle.std.specs.Prelude.{◌<◌, ◌≤◌};
+// How many cases came to what.
+use crate::kinds::{Kind, UnknownKind};
+use replay_cases::said::Verdict;
+use std::ops::Add;
+use std::{fmt, io};
 
-use replay_cases::said::{Verdict, word_at};
+#[derive(Clone, Copy, PartialEq, Debug, Default)]
+pub struct Tally {
+    same: u64,
+    refused: u64,
+    departed: u64,
+    different: u64,
+}
 
-pub const SAME: usize = 0;
-
-pub const REFUSED: usize = 1;
-
-pub const DEPARTED: usize = 2;
-
-pub const DIFFERENT: usize = 3;
-
-fn place_of(verdict: Verdict) -> usize
-    ensures { result < 4 }
-{
-    match verdict {
-        Verdict::Same => SAME,
-        Verdict::Refused => REFUSED,
-        Verdict::Departed => DEPARTED,
-        Verdict::Different => DIFFERENT,
+impl Tally {
+    fn count(&mut self, verdict: Verdict) {
+        match verdict {
+            Verdict::Same => self.same = self.same.wrapping_add(1),
+            Verdict::Refused => self.refused = self.refused.wrapping_add(1),
+            Verdict::Departed => self.departed = self.departed.wrapping_add(1),
+            Verdict::Different => self.different = self.different.wrapping_add(1),
+        }
     }
 }
 
-pub fn count(counts: &mut [u64], kind: usize, verdict: Verdict)
-    requires { kind ≤ 10 }
-{
-    let i = 4 * kind + place_of(verdict);
-    if i < counts.len() {
-        counts[i] = std::num::wrapping_add_u64(counts[i], 1);
+impl Add for Tally {
+    type Output = Tally;
+
+    fn add(self, other: Tally) -> Tally {
+        Tally {
+            same: self.same.wrapping_add(other.same),
+            refused: self.refused.wrapping_add(other.refused),
+            departed: self.departed.wrapping_add(other.departed),
+            different: self.different.wrapping_add(other.different),
+        }
     }
 }
 
-pub fn of_kind(counts: &[u64], kind: usize, place: usize) -> u64
-    requires { (kind ≤ 10) × (place < 4) }
-{
-    word_at(counts, 4 * kind + place)
+impl fmt::Display for Tally {
+    fn fmt<W: fmt::Write>(&self, f: &mut fmt::Formatter<W>) -> fmt::Result {
+        let same = self.same;
+        let refused = self.refused;
+        let departed = self.departed;
+        let different = self.different;
+        write!(
+            f,
+            "{same} answered as the Rust did, {refused} refused where it panics, {departed} refused where it answers, {different} different"
+        )
+    }
 }
 
-// Every kind's count at `place` together.
-pub fn of_all(counts: &[u64], place: usize) -> u64
-    requires { place < 4 }
-{
-    let mut sum: u64 = 0;
-    let mut kind = 0;
-    while kind <= 10 {
-        sum = std::num::wrapping_add_u64(sum, of_kind(counts, kind, place));
-        kind += 1;
+// A tally for each kind, and one for every other byte.
+#[derive(Drop)]
+pub struct Counts {
+    kinds: [Tally; 10],
+    unknown: Tally,
+}
+
+impl Counts {
+    pub fn new() -> Counts {
+        let none = Tally::default();
+        Counts {
+            kinds: [none; 10],
+            unknown: none,
+        }
     }
-    sum
+
+    pub fn count(&mut self, kind: Result<Kind, UnknownKind>, verdict: Verdict) {
+        match kind {
+            Ok(kind) => self.kinds[kind as usize].count(verdict),
+            Err(_) => self.unknown.count(verdict),
+        }
+    }
+
+    pub fn tell(&self, rt: &impl Print) -> io::Result<()> {
+        for kind in Kind::ALL {
+            let tally = self.kinds[kind as usize];
+            println!(rt; "{kind}: {tally}")?;
+        }
+        let all = self
+            .kinds
+            .iter()
+            .fold(self.unknown, |sum, tally| sum + *tally);
+        println!(rt; "in all: {all}")
+    }
 }
