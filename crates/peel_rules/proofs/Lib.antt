@@ -13,8 +13,6 @@ pub mod PeelBuild
 pub mod PeelCrowded
 pub mod PeelAnswers
 pub mod PeelHigh
-pub mod PeelTurns
-pub mod PeelFilling
 pub mod PeelRoom
 pub mod PeelTheorems
 pub mod PeelCalls

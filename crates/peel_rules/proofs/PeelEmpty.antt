@@ -9,6 +9,7 @@ use native.Mathlib.Omega.{arith}
 use lib.ListN.{length}
 use lib.Dec.{eqb}
 use borrow.Author.Tests.{eqb-true, eqb-false, eq-eqb, ne_eqb}
+use Rattle.peeling.specs.Graph.{Graph, degree_of}
 use Rattle.peel_rules.specs.Peel.{Peeled, State, push, popped, pop, step, run, ones, start, peel}
 use Rattle.peel_rules.proofs.PeelBasic.{touches_first, touches_second, all_at}
 use Rattle.peel_rules.proofs.PeelSolved.{Inv, falls, falls_one, inv_step, start_inv}
@@ -98,6 +99,10 @@ push_length es w st = go (eqb (degree w es) 2)
 -- ---- the measure: what is on the stack, and what may come on it
 unfoldable pub weight : ℕ → List Edge → List ℕ → ℕ
 weight n es st = length st + sum_to n (λ w. heavy (degree w es))
+
+-- the same of the graph that the code keeps: vertices on the stack, and those of degree 2 or more
+unfoldable pub work : ℕ → Graph → List ℕ → ℕ
+work n g st = length st + sum_to n (λ w. heavy (degree_of g w))
 
 pub start_weight : (n : ℕ) (es : List Edge) → weight n es (ones n es) ≤ n
 unfolding weight ones sum_to

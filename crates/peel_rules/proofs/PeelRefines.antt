@@ -30,7 +30,7 @@ side_back side0 = refl
 side_back side1 = refl
 side_back side2 = refl
 
-pub side_smaller : (s : Side) → side_no s < 3
+side_smaller : (s : Side) → side_no s < 3
 unfolding side_no
 side_smaller side0 = omega arith
 side_smaller side1 = omega arith

@@ -19,13 +19,12 @@ use Rattle.peel_rules.specs.Peel.{Peeled, State, push, popped, pop, step, run, o
 use Rattle.peel_rules.specs.Machine.{no_edge, side_from, side_no, first_side, side_at, Machine, graph_after, stack_after, mstart}
 use Rattle.peel_rules.proofs.PeelBasic.{pivot_of_lem, at_touches, at_none, all_at, step-inv, run-inv}
 use Rattle.peel_rules.proofs.PeelSolved.{Inv, Good, inv_skip, inv_takes, start_inv}
-use Rattle.peel_rules.proofs.PeelEmpty.{heavy, sum_cong, first<, second<, weight, step_falls, run_idle, peel_empties}
+use Rattle.peel_rules.proofs.PeelEmpty.{heavy, sum_cong, first<, second<, weight, step_falls, run_idle, peel_empties, work}
 use Rattle.peel_rules.proofs.PeelCore.{without_length}
 use Rattle.peel_rules.proofs.PeelXor.{Numbered, edges_n, first_n, without_n, edges_without, first_edge, xor_below}
 use Rattle.peel_rules.proofs.PeelRefines.{Rel, Sim, TakeFacts, pivot_of, is_pivot, kept_pivot, Kept, side_small, side_w, xor_v, busy, side_v, edge_v, lower_eq, rel_after, take_facts, idle_degree}
 use Rattle.peel_rules.proofs.PeelAnswers.{sim_start}
 use Rattle.peel_rules.proofs.PeelRoom.{both_fit}
-use Rattle.peel_rules.proofs.PeelTurns.{work}
 use Rattle.peel_turns.specs.declared.visiting.Heads.{Heads}
 use Rattle.peel_steps.specs.Pictures.{graph_in, rising, falling, stack_in, kept_numbers, kept_bytes, number_at, peeled_in}
 use Rattle.peel_gates.specs.Rooms.{numbers_room, bytes_room}

@@ -1,4 +1,4 @@
-use Rattle.peel_rules.proofs.PeelTurns.{work}
+use Rattle.peel_rules.proofs.PeelEmpty.{work}
 use Rattle.peel_steps.specs.Pictures.{graph_in, stack_in}
 use Rattle.peel_walks.proofs.PeelLaws.{Loop}
 use Rattle.peel_walks.proofs.loops.peel.Given as goal
