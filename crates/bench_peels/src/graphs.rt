@@ -1,243 +1,127 @@
 // The two peelers on one table.
-ghost use Rattle.std.specs.Prelude.{◌≤◌, ◌<◌, length};
+ghost use Rattle.std.specs.Prelude.{◌≤◌, length};
 
-use answers::Answer;
-use bench_checks::tally::{HIGH, LOOKUP, LOW, count, hold};
+use answers::{Refusal, StuckReport, Unpeeled, number};
+use bench_checks::tally::{Caller, Tally};
 use bench_cores::cores::{crowded, outside_core};
-use lent_cells::cells::{
-    left_bytes, left_numbers, left_words, mark_bytes, mark_numbers, mark_words, same_words,
-};
+use lent_cells::cells::{left, mark, marked};
 use lookups::reading::lookup;
-use peel_gates::ends::Peeling;
-use peelers::programs::{peel_high_of, peel_low_of};
+use peelers::calls::{peel_by_sig_vals_high_mem, peel_by_sig_vals_low_mem};
 use peeling::numbers::Edge;
 
 // The largest table whose crowd and core are counted too.
 const COUNTED: usize = 80;
 
-fn mark(solution: &mut [u64], numbers: &mut [u32], bytes: &mut [u8]) {
-    mark_words(solution);
-    mark_numbers(numbers);
-    mark_bytes(bytes);
+// How many cells of each work area a peeler asks for.
+#[derive(Clone, Copy)]
+struct Room {
+    numbers: usize,
+    bytes: usize,
 }
 
-// Counts a peeler's answer, and holds the lent cells to it.
-fn left(
-    tally: &mut [u64; 90],
-    row: usize,
-    answer: Answer,
+// What a peeler came to on memory of its own.
+#[derive(Clone, Copy)]
+struct Outcome {
+    end: Result<(), Unpeeled>,
+    x: [u64; 300],
+}
+
+// Every bib is found in the table's cells.
+fn look_up(tally: &mut Tally, edges: &[Edge], cells: &[u64]) {
+    for e in edges {
+        let found = lookup(cells, e.a, e.b, e.c);
+        tally.count(Caller::Lookup, &found);
+        tally.hold(found == Ok(e.value));
+    }
+}
+
+// Counts a peeler's answer, and holds what it left to it; bibs are looked up only where the table is filled.
+fn left_by(
+    tally: &mut Tally,
+    caller: Caller,
+    edges: &[Edge],
+    room: Room,
+    end: Result<(), Unpeeled>,
     solution: &[u64],
     numbers: &[u32],
-    numbers_room: usize,
     bytes: &[u8],
-    bytes_room: usize,
-)
-    requires { row < 8 }
-{
-    count(tally, row, answer);
-    hold(tally, left_numbers(numbers, numbers_room));
-    hold(tally, left_bytes(bytes, bytes_room));
-    if answer.number() != 0 {
-        hold(tally, left_words(solution, 0));
+) {
+    tally.count(caller, &end);
+    tally.hold(left(numbers, room.numbers));
+    tally.hold(left(bytes, room.bytes));
+    match end {
+        Ok(()) => look_up(tally, edges, solution),
+        Err(_) => tally.hold(left(solution, 0)),
     }
 }
 
-// Every one of the m bibs is found in the table's cells.
-fn look_up(tally: &mut [u64; 90], table: [Edge; 256], m: usize, cells: &[u64])
-    requires { m ≤ 256 }
-{
-    let mut i = 0;
-    while i < m {
-        let e = table[i];
-        let found = lookup(cells, e.a, e.b, e.c);
-        let answer = found.answer;
-        count(tally, LOOKUP, answer);
-        hold(tally, found.bib == e.value);
-        i += 1;
-    }
-}
-
-// Bibs are looked up only where the table is filled.
-fn look_up_if_solved(
-    tally: &mut [u64; 90],
-    answer: Answer,
-    table: [Edge; 256],
-    m: usize,
-    cells: &[u64],
-)
-    requires { m ≤ 256 }
-{
-    if answer.number() == 0 {
-        look_up(tally, table, m, cells);
-    }
-}
-
-// The high-memory peeler on marked memory.
-fn solve_high(
-    table: [Edge; 256],
-    m: usize,
+// A peeler on marked memory that is longer than its room.
+fn peeled<F>(
+    tally: &mut Tally,
+    caller: Caller,
     n: usize,
-    solution: &mut [u64],
-    numbers: &mut [u32],
-    bytes: &mut [u8],
-) -> Peeling {
-    mark(solution, numbers, bytes);
-    peel_high_of(table, m, n, solution, numbers, bytes)
-}
-
-fn by_high(
-    tally: &mut [u64; 90],
-    table: [Edge; 256],
-    m: usize,
-    n: usize,
-    solution: &mut [u64],
-    numbers: &mut [u32],
-    bytes: &mut [u8],
-) -> Peeling
-    requires { (n ≤ 16384) × (m ≤ 256) }
+    edges: &[Edge],
+    room: Room,
+    peel: F,
+) -> Outcome
+where
+    F: FnOnce(&mut [u64], &mut [u32], &mut [u8]) -> Result<(), Unpeeled>,
+    requires callable { F.IsAlwaysCallable peel }
+    requires few_vertices { n ≤ 300 }
 {
-    let p = solve_high(table, m, n, solution, numbers, bytes);
-    let answer = p.answer;
-    let numbers_room = answers::peel_high_numbers(n, m);
-    let bytes_room = answers::peel_high_bytes(n, m);
-    left(
-        tally,
-        HIGH,
-        answer,
-        solution,
-        numbers,
-        numbers_room,
-        bytes,
-        bytes_room,
-    );
-    look_up_if_solved(tally, answer, table, m, solution);
-    p
-}
-
-// The low-memory peeler on marked memory.
-fn solve_low(
-    table: [Edge; 256],
-    m: usize,
-    n: usize,
-    solution: &mut [u64],
-    numbers: &mut [u32],
-    bytes: &mut [u8],
-) -> Peeling {
-    mark(solution, numbers, bytes);
-    peel_low_of(table, m, n, solution, numbers, bytes)
-}
-
-fn by_low(
-    tally: &mut [u64; 90],
-    table: [Edge; 256],
-    m: usize,
-    n: usize,
-    solution: &mut [u64],
-    numbers: &mut [u32],
-    bytes: &mut [u8],
-) -> Peeling
-    requires { (n ≤ 16384) × (m ≤ 256) }
-{
-    let p = solve_low(table, m, n, solution, numbers, bytes);
-    let answer = p.answer;
-    let room = answers::peel_low_numbers(n);
-    left(tally, LOW, answer, solution, numbers, room, bytes, n);
-    look_up_if_solved(tally, answer, table, m, solution);
-    p
-}
-
-// Whether two peelers say the same, report included.
-fn same_ends(p: Peeling, q: Peeling) -> bool {
-    let a = p.answer;
-    let b = q.answer;
-    if a.number() != b.number() {
-        return false;
-    }
-    if a.place() != b.place() {
-        return false;
-    }
-    let r = p.report;
-    let s = q.report;
-    if r.peeled != s.peeled {
-        return false;
-    }
-    if r.edges != s.edges {
-        return false;
-    }
-    r.unpeeled == s.unpeeled
+    let mut x = [0u64; 300];
+    let mut numbers = marked::<u32, 900>();
+    let mut bytes = marked::<u8, 600>();
+    let solution = &mut x[..n];
+    mark(solution);
+    let end = peel(solution, &mut numbers, &mut bytes);
+    left_by(tally, caller, edges, room, end, solution, &numbers, &bytes);
+    Outcome { end, x }
 }
 
 // What the rules say: a crowd, then a core, counted edge by edge.
-fn expected(table: [Edge; 256], m: usize, n: usize) -> Answer
-    requires { (m ≤ 256) × (n ≤ 16384) }
+fn expected(n: usize, edges: &[Edge]) -> Result<(), Unpeeled>
+    requires { (length edges.now ≤ 256) × (n ≤ 16384) }
 {
-    let v = crowded(table, m, n);
-    if v < n {
-        return Answer::CrowdedVertex(v);
+    if let Some(v) = crowded(edges, n) {
+        return Err(Unpeeled::Refused(Refusal::CrowdedVertex(v)));
     }
-    let outside = outside_core(table, m);
+    let m = edges.len();
+    let outside = outside_core(edges);
     if outside < m {
-        return Answer::Stuck(outside);
+        return Err(Unpeeled::Stuck(StuckReport {
+            peeled: outside,
+            edges: m,
+            unpeeled: 100.0 * ((m - outside) as f64) / (m as f64),
+        }));
     }
-    Answer::Solved
-}
-
-// The answer that counting gives.
-fn as_counted(tally: &mut [u64; 90], table: [Edge; 256], m: usize, n: usize, answer: Answer)
-    requires { (m ≤ 256) × (n ≤ 16384) }
-{
-    let e = expected(table, m, n);
-    hold(tally, e.number() == answer.number());
-    hold(tally, e.place() == answer.place());
-}
-
-// What a peeler came to on memory of its own, which is longer than its room.
-#[derive(Clone, Copy)]
-pub struct Outcome {
-    pub end: Peeling,
-    pub x: [u64; 300],
-}
-
-fn high_on(tally: &mut [u64; 90], table: [Edge; 256], m: usize, n: usize) -> Outcome
-    requires { (m ≤ 256) × (n ≤ 300) }
-{
-    let mut x = [0u64; 300];
-    let mut numbers = [0u32; 900];
-    let mut bytes = [0u8; 600];
-    let end = by_high(tally, table, m, n, &mut x[..n], &mut numbers, &mut bytes);
-    Outcome { end, x }
-}
-
-fn low_on(tally: &mut [u64; 90], table: [Edge; 256], m: usize, n: usize) -> Outcome
-    requires { (m ≤ 256) × (n ≤ 300) }
-{
-    let mut x = [0u64; 300];
-    let mut numbers = [0u32; 900];
-    let mut bytes = [0u8; 600];
-    let end = by_low(tally, table, m, n, &mut x[..n], &mut numbers, &mut bytes);
-    Outcome { end, x }
-}
-
-// One answer with its report, and one solution.
-fn agree(tally: &mut [u64; 90], h: Outcome, l: Outcome) {
-    let p = h.end;
-    let q = l.end;
-    hold(tally, same_ends(p, q));
-    let xh = h.x;
-    let xl = l.x;
-    hold(tally, same_words(&xh, &xl));
+    Ok(())
 }
 
 // One table by both peelers: one answer with its report, one solution, every bib found; of a small table, the answer that counting gives.
-pub fn compare(tally: &mut [u64; 90], table: [Edge; 256], m: usize, n: usize)
-    requires { (m ≤ 256) × (n ≤ 300) }
+pub fn compare(tally: &mut Tally, n: usize, edges: &[Edge])
+    requires { (length edges.now ≤ 256) × (n ≤ 300) }
 {
-    let h = high_on(tally, table, m, n);
-    let l = low_on(tally, table, m, n);
-    agree(tally, h, l);
+    let m = edges.len();
+    let high = Room {
+        numbers: answers::peel_high_numbers(n, m),
+        bytes: answers::peel_high_bytes(n, m),
+    };
+    let low = Room {
+        numbers: answers::peel_low_numbers(n),
+        bytes: n,
+    };
+    let h = peeled(tally, Caller::High, n, edges, high, |x, numbers, bytes| {
+        peel_by_sig_vals_high_mem(n, edges, x, numbers, bytes)
+    });
+    let l = peeled(tally, Caller::Low, n, edges, low, |x, numbers, bytes| {
+        peel_by_sig_vals_low_mem(n, edges, x, numbers, bytes)
+    });
+    tally.hold(h.end == l.end);
+    tally.hold(h.x == l.x);
     if m <= COUNTED {
-        let end = h.end;
-        let answer = end.answer;
-        as_counted(tally, table, m, n, answer);
+        let must = expected(n, edges);
+        tally.hold(number(&must) == number(&h.end));
+        tally.hold(must == h.end);
     }
 }
