@@ -3,7 +3,7 @@ use Rattle.std.specs.Prelude.{◌≡◌, List, ℕ, Float}
 use Rattle.answers.specs.Numbers.{number_of, place_of}
 use Rattle.answers.specs.Answers.{Answer}
 use Rattle.peel_rules.specs.Calls.{PeelCall}
-use Rattle.peel_rules.specs.declared.report.StuckReport.{StuckReport}
+use Rattle.answers.specs.declared.refusal.StuckReport.{StuckReport}
 
 -- number and place are the answer's, the counts and the percentage the report's
 pub record TellsReport (answer : Answer) (report : StuckReport) (number place peeled total : ℕ) (unpeeled : Float) : Type 0 where

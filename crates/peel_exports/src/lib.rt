@@ -4,39 +4,44 @@
 ghost use Rattle.std.specs.Prelude.{◌≡◌};
 ghost use Rattle.answers.specs.Numbers.{number_of, place_of};
 ghost use Rattle.peel_rules.specs.Calls.{peel_high_call, peel_low_call, lookup_call};
+ghost use Rattle.peel_gates.specs.Ends.{peeling_of};
 ghost use Rattle.peel_exports.specs.Told.{Tells, TellsReport};
 
-use answers::Answer;
+use answers::{StuckReport, Unpeeled, tell};
 use lookups::reading::lookup;
-use peel_gates::ends::Peeling;
 use peelers::calls::{peel_by_sig_vals_high_mem, peel_by_sig_vals_low_mem};
 use peeling::numbers::{Edge, Vertex};
 
-// The number of an answer; its place is written through `place`.
-fn tell(answer: Answer, place: &mut usize) -> u32
-    ensures value { result ≡ number_of answer }
-    ensures place_after { place.new ≡ place_of answer }
+// The report of a peeler: zeros where it is not stuck.
+#[tactic(auto, using(peel_rules::proofs::Counts::nothing))]
+fn report_of(end: &Result<(), Unpeeled>) -> StuckReport
+    ensures { result ≡ (peeling_of end.now).report }
 {
-    *place = answer.place();
-    answer.number()
+    match *end {
+        Err(Unpeeled::Stuck(report)) => report,
+        _ => StuckReport {
+            peeled: 0,
+            edges: 0,
+            unpeeled: 0.0,
+        },
+    }
 }
 
-// The same of a peeler; its report is written through too.
+// The number of a peeler's answer; its place is written through `place`, and its report too.
 fn tell_peeling(
-    p: Peeling,
+    end: &Result<(), Unpeeled>,
     peeled: &mut usize,
     total: &mut usize,
     unpeeled: &mut f64,
     place: &mut usize,
 ) -> u32
-    ensures { TellsReport p.answer p.report result place.new peeled.new total.new unpeeled.new }
+    ensures { TellsReport (peeling_of end.now).answer (peeling_of end.now).report result place.new peeled.new total.new unpeeled.new }
 {
-    let report = p.report;
+    let report = report_of(end);
     *peeled = report.peeled;
     *total = report.edges;
     *unpeeled = report.unpeeled;
-    let answer = p.answer;
-    tell(answer, place)
+    tell(end, place)
 }
 
 // `peelers::calls::peel_by_sig_vals_high_mem`; its report goes through `peeled`, `total` and `unpeeled`.
@@ -53,8 +58,8 @@ pub fn orohkaril_peel_high(
 ) -> u32
     ensures { Tells (peel_high_call n edges.now solution.old numbers.old bytes.old) result place.new peeled.new total.new unpeeled.new solution.new numbers.new bytes.new }
 {
-    let p = peel_by_sig_vals_high_mem(n, edges, solution, numbers, bytes);
-    tell_peeling(p, peeled, total, unpeeled, place)
+    let end = peel_by_sig_vals_high_mem(n, edges, solution, numbers, bytes);
+    tell_peeling(&end, peeled, total, unpeeled, place)
 }
 
 // `peelers::calls::peel_by_sig_vals_low_mem`; its report goes through `peeled`, `total` and `unpeeled`.
@@ -71,8 +76,8 @@ pub fn orohkaril_peel_low(
 ) -> u32
     ensures { Tells (peel_low_call n edges.now solution.old numbers.old bytes.old) result place.new peeled.new total.new unpeeled.new solution.new numbers.new bytes.new }
 {
-    let p = peel_by_sig_vals_low_mem(n, edges, solution, numbers, bytes);
-    tell_peeling(p, peeled, total, unpeeled, place)
+    let end = peel_by_sig_vals_low_mem(n, edges, solution, numbers, bytes);
+    tell_peeling(&end, peeled, total, unpeeled, place)
 }
 
 // `lookups::reading::lookup`; bib and place are written through.
@@ -89,7 +94,7 @@ pub fn orohkaril_lookup(
     ensures place_after { place.new ≡ place_of (lookup_call table.now a b c).answer }
 {
     let found = lookup(table, Vertex(a), Vertex(b), Vertex(c));
-    *bib = found.bib;
-    let answer = found.answer;
-    tell(answer, place)
+    // a lookup that is refused tells 0
+    *bib = found.unwrap_or(0);
+    tell(&found, place)
 }
