@@ -7,10 +7,10 @@ mod orders;
 mod runs;
 mod solving;
 
-fn main() {
-    let mut tally = [0u64; 90];
-    let mut seen = [0u64; 5];
-    let mut seed: u64 = 88172645463325252;
-    runs::systems(&mut tally, &mut seen, &mut seed);
-    counts::lines(&tally, &seen);
+use runs::Runs;
+
+fn main(rt: HostRuntime) -> std::io::Result<()> {
+    let mut runs = Runs::new(88172645463325252);
+    runs.systems();
+    counts::lines(&rt, &runs.tally, &runs.seen)
 }

@@ -1,174 +1,137 @@
 // Seeded systems, each list of their equations by all solvers.
-ghost use Rattle.std.specs.Prelude.{◌≡◌, ◌<◌, ◌≤◌, length};
+ghost use Rattle.std.specs.Prelude.{◌≡◌, ◌≤◌};
 
-use crate::counts::{DRAWN, LAZY_APART, LAZY_ORDERED, LAZY_TWICE, MOVED, count_if};
-use crate::orders::{repeat, shuffle};
+use crate::counts::{Seen, count_if};
+use crate::orders::Equations;
 use crate::solving::{ByEach, Came, solve};
-use answers::Answer;
-use bench_checks::tally::{DENSE, SLOW, SPARSE, count, hold};
-use bench_draws::equations::{draw_equations, draw_values, spoil};
-use bench_draws::random::{below, least};
-use lent_cells::cells::same_words;
+use answers::Refusal;
+use bench_checks::tally::{Caller, Tally};
+use bench_draws::equations::{Shape, draw_equations, draw_values, spoil};
+use bench_draws::random::Random;
 
 // Every number of variables from 1 to 80, four times.
 const SYSTEMS: usize = 320;
 // Orders of each system besides the one that was drawn.
 const ORDERS: usize = 4;
 
-// Equations as rows of two words and their constants; one more may follow.
-#[derive(Clone, Copy)]
-struct DrawnRows {
-    rows: [u64; 122],
-    constants: [u64; 61],
-}
-
 // m equations of at most six variables that some values meet, or one of which is spoilt.
-fn draw(seed: &mut u64, n: usize, m: usize) -> DrawnRows
+fn draw(random: &mut Random, n: usize, m: usize) -> Equations
     requires { (n ≤ 80) × (m ≤ 60) }
-    ensures { (length result.rows ≡ 122) × (length result.constants ≡ 61) }
+    ensures { result.m ≡ m }
 {
     let mut values = [0u64; 80];
     let mut starts = [0u32; 61];
     let mut vars = [0u32; 360];
     let mut constants = [0u64; 61];
     let mut rows = [0u64; 122];
-    draw_values(seed, 16, &mut values);
-    let long = least(1 + below(seed, 6), n);
+    draw_values(random, 16, &mut values);
+    let shape = Shape {
+        shortest: 0,
+        longest: (1 + random.below(6)).min(n),
+        row_words: 2,
+    };
     draw_equations(
-        seed,
-        n,
-        m,
-        2,
-        0,
-        long,
-        &values,
+        random,
+        shape,
+        &values[..n],
         &mut starts,
         &mut vars,
-        &mut constants,
+        &mut constants[..m],
         &mut rows,
     );
-    if below(seed, 3) == 0 {
-        spoil(seed, m, &mut constants);
+    if random.below(3) == 0 {
+        spoil(random, &mut constants[..m]);
     }
-    DrawnRows { rows, constants }
-}
-
-// 0 or 6: the call was not refused before its run.
-fn ran(answer: Answer) -> bool {
-    match answer {
-        Answer::Solved => true,
-        Answer::Unsolvable => true,
-        _ => false,
+    Equations {
+        n,
+        m,
+        rows,
+        constants,
     }
 }
 
-fn same_table(a: Came, b: Came) -> bool {
-    let x = a.x;
-    let y = b.x;
-    same_words(&x, &y)
+// The call was not refused before its run.
+fn ran(answer: Result<(), Refusal>) -> bool {
+    matches!(answer, Ok(()) | Err(Refusal::Unsolvable))
 }
 
-fn same_rows(a: [u64; 122], b: [u64; 122]) -> bool {
-    same_words(&a, &b)
+// What is drawn from, and what has been counted.
+#[derive(Drop)]
+pub struct Runs {
+    random: Random,
+    pub tally: Tally,
+    pub seen: Seen,
 }
 
-// Counts an answer, which must be one of a run.
-fn counted(tally: &mut [u64; 90], row: usize, answer: Answer)
-    requires { row < 8 }
-{
-    count(tally, row, answer);
-    hold(tally, ran(answer));
-}
-
-// Counts an answer, and holds it and its table to the first that sparse gave.
-fn held(tally: &mut [u64; 90], row: usize, first: Came, found: Came)
-    requires { row < 8 }
-{
-    let must = first.answer;
-    let answer = found.answer;
-    counted(tally, row, answer);
-    hold(tally, answer.number() == must.number());
-    hold(tally, same_table(first, found));
-}
-
-// Sparse and both dense engines are held to the first list; whether lazy gave another table is told.
-fn compared(tally: &mut [u64; 90], first: ByEach, again: ByEach) -> bool {
-    held(tally, SPARSE, first.sparse, again.sparse);
-    held(tally, DENSE, first.sparse, again.dense);
-    held(tally, SLOW, first.sparse, again.slow);
-    !same_table(first.lazy, again.lazy)
-}
-
-// The m equations in another order; tells whether lazy gave another table.
-fn reordered(
-    tally: &mut [u64; 90],
-    seen: &mut [u64; 5],
-    seed: &mut u64,
-    n: usize,
-    m: usize,
-    rows: &mut [u64; 122],
-    constants: &mut [u64; 61],
-    first: ByEach,
-) -> bool
-    requires { (n ≤ 80) × (m ≤ 61) }
-{
-    let before = *rows;
-    shuffle(seed, m, rows, constants);
-    count_if(seen, MOVED, !same_rows(before, *rows));
-    compared(tally, first, solve(n, m, rows, constants))
-}
-
-// The list that was drawn: both dense engines are held to sparse.
-fn drawn_first(tally: &mut [u64; 90], seen: &mut [u64; 5], first: ByEach) {
-    let sparse = first.sparse;
-    let answer = sparse.answer;
-    counted(tally, SPARSE, answer);
-    held(tally, DENSE, sparse, first.dense);
-    held(tally, SLOW, sparse, first.slow);
-    count_if(seen, DRAWN, true);
-    count_if(seen, LAZY_APART, !same_table(sparse, first.lazy));
-}
-
-// Other orders of the m equations, and then one of them listed twice.
-fn in_orders(
-    tally: &mut [u64; 90],
-    seen: &mut [u64; 5],
-    seed: &mut u64,
-    n: usize,
-    m: usize,
-    rows: &mut [u64; 122],
-    constants: &mut [u64; 61],
-    first: ByEach,
-)
-    requires { (n ≤ 80) × (m ≤ 60) }
-{
-    let mut k: usize = 0;
-    while k < ORDERS {
-        let changed = reordered(tally, seen, seed, n, m, rows, constants, first);
-        count_if(seen, LAZY_ORDERED, changed);
-        k += 1;
+impl Runs {
+    pub fn new(seed: u64) -> Runs {
+        Runs {
+            random: Random::new(seed),
+            tally: Tally::new(),
+            seen: Seen::default(),
+        }
     }
-    let more = repeat(seed, m, rows, constants);
-    let changed = reordered(tally, seen, seed, n, more, rows, constants, first);
-    count_if(seen, LAZY_TWICE, changed);
-}
 
-fn system(tally: &mut [u64; 90], seen: &mut [u64; 5], seed: &mut u64, n: usize, m: usize)
-    requires { (n ≤ 80) × (m ≤ 60) }
-{
-    let drawn = draw(seed, n, m);
-    let mut rows = drawn.rows;
-    let mut constants = drawn.constants;
-    let first = solve(n, m, &rows, &constants);
-    drawn_first(tally, seen, first);
-    in_orders(tally, seen, seed, n, m, &mut rows, &mut constants, first);
-}
+    // Counts an answer, which must be one of a run.
+    fn counted(&mut self, caller: Caller, answer: Result<(), Refusal>) {
+        self.tally.count(caller, &answer);
+        self.tally.hold(ran(answer));
+    }
 
-pub fn systems(tally: &mut [u64; 90], seen: &mut [u64; 5], seed: &mut u64) {
-    let mut k: usize = 0;
-    while k < SYSTEMS {
-        let m = below(seed, 61);
-        system(tally, seen, seed, 1 + k % 80, m);
-        k += 1;
+    // Counts an answer, and holds it and its table to the first that sparse gave.
+    fn held(&mut self, caller: Caller, first: &Came, found: &Came) {
+        self.counted(caller, found.answer);
+        self.tally.hold(found.answer == first.answer);
+        self.tally.hold(found.x == first.x);
+    }
+
+    // The list that was drawn: both dense engines are held to sparse.
+    fn drawn_first(&mut self, first: &ByEach) {
+        self.counted(Caller::Sparse, first.sparse.answer);
+        self.held(Caller::Dense, &first.sparse, &first.dense);
+        self.held(Caller::Slow, &first.sparse, &first.slow);
+        count_if(&mut self.seen.drawn, true);
+        count_if(&mut self.seen.lazy_apart, first.lazy.x != first.sparse.x);
+    }
+
+    // Sparse and both dense engines are held to the first list; hands back whether lazy gave another table.
+    fn compared(&mut self, first: &ByEach, again: &ByEach) -> bool {
+        self.held(Caller::Sparse, &first.sparse, &again.sparse);
+        self.held(Caller::Dense, &first.sparse, &again.dense);
+        self.held(Caller::Slow, &first.sparse, &again.slow);
+        again.lazy.x != first.lazy.x
+    }
+
+    // The equations in another order; hands back whether lazy gave another table.
+    fn reordered(&mut self, equations: &mut Equations, first: &ByEach) -> bool
+        ensures { equations.new.m ≡ equations.old.m }
+    {
+        let before = equations.rows;
+        equations.shuffle(&mut self.random);
+        count_if(&mut self.seen.moved, equations.rows != before);
+        self.compared(first, &solve(equations))
+    }
+
+    // A list as it is drawn, in other orders, and then with one of its equations twice.
+    fn system(&mut self, n: usize, m: usize)
+        requires { (n ≤ 80) × (m ≤ 60) }
+    {
+        let mut equations = draw(&mut self.random, n, m);
+        let first = solve(&equations);
+        self.drawn_first(&first);
+        for _order in 0..ORDERS {
+            let changed = self.reordered(&mut equations, &first);
+            count_if(&mut self.seen.lazy_ordered, changed);
+        }
+        equations.repeat(&mut self.random);
+        let changed = self.reordered(&mut equations, &first);
+        count_if(&mut self.seen.lazy_twice, changed);
+    }
+
+    pub fn systems(&mut self) {
+        for k in 0..SYSTEMS {
+            let m = self.random.below(61);
+            self.system(1 + k % 80, m);
+        }
     }
 }

@@ -1,24 +1,21 @@
 // One list of equations by each solver.
-ghost use Rattle.std.specs.Prelude.{◌*◌, ◌≤◌, length};
+ghost use Rattle.std.specs.Prelude.{◌≤◌};
 
 use crate::listing::list_rows;
-use answers::Answer;
+use crate::orders::Equations;
+use answers::Refusal;
 use dense::dense_gaussian_elimination;
+use dense_rows::DenseSystem;
 use lazy_calls::lazy_gaussian_elimination;
 use slow_dense::slow_gaussian_elimination;
 use sparse::gaussian_elimination;
+use system::System;
 
 // What a solver came to; where it gave no table, x is as it was lent.
 #[derive(Clone, Copy)]
 pub struct Came {
-    pub answer: Answer,
+    pub answer: Result<(), Refusal>,
     pub x: [u64; 80],
-}
-
-#[derive(Clone, Copy)]
-pub struct ByRows {
-    pub dense: Came,
-    pub slow: Came,
 }
 
 #[derive(Clone, Copy)]
@@ -29,119 +26,35 @@ pub struct ByEach {
     pub lazy: Came,
 }
 
-fn eliminate(
-    lazy: bool,
-    n: usize,
-    m: usize,
-    starts: &[u32],
-    vars: &[u32],
-    constants: &[u64],
-    x: &mut [u64],
-    numbers: &mut [u32],
-    words: &mut [u64],
-) -> Answer {
-    if lazy {
-        let built = lazy_gaussian_elimination(n, m, starts, vars, constants, x, numbers, words);
-        return built.answer;
-    }
-    let built = gaussian_elimination(n, m, starts, vars, constants, x, numbers, words);
-    built.answer
-}
-
-fn eliminate_rows(
-    slow: bool,
-    n: usize,
-    m: usize,
-    rows: &[u64],
-    constants: &[u64],
-    x: &mut [u64],
-    numbers: &mut [u32],
-    words: &mut [u64],
-) -> Answer {
-    if slow {
-        return slow_gaussian_elimination(n, m, 2, rows, constants, x, numbers, words);
-    }
-    dense_gaussian_elimination(n, m, 2, rows, constants, x, numbers, words)
-}
-
-// Sparse or lazy elimination.
-fn by_lists(
-    lazy: bool,
-    n: usize,
-    m: usize,
-    starts: &[u32],
-    vars: &[u32],
-    constants: &[u64],
-    numbers: &mut [u32],
-    words: &mut [u64],
-) -> Came
-    requires { n ≤ 80 }
+// A solver on a solution of its own, in the same work areas as the others.
+fn by<F>(n: usize, numbers: &mut [u32], words: &mut [u64], solve: F) -> Came
+where
+    F: FnOnce(&mut [u64], &mut [u32], &mut [u64]) -> Result<(), Refusal>,
+    requires callable { F.IsAlwaysCallable solve }
+    requires few_variables { n ≤ 80 }
 {
     let mut x = [0u64; 80];
-    let answer = eliminate(
-        lazy,
-        n,
-        m,
-        starts,
-        vars,
-        constants,
-        &mut x[..n],
-        numbers,
-        words,
-    );
+    let answer = solve(&mut x[..n], numbers, words);
     Came { answer, x }
 }
 
-// One of the two dense engines.
-fn by_rows(
-    slow: bool,
-    n: usize,
-    m: usize,
-    rows: &[u64],
-    constants: &[u64],
-    numbers: &mut [u32],
-    words: &mut [u64],
-) -> Came
-    requires { n ≤ 80 }
+// Both forms of one system by the four solvers, one after the other.
+fn by_all(system: &System, rows: &DenseSystem, numbers: &mut [u32], words: &mut [u64]) -> ByEach
+    requires { system.now.n ≤ 80 }
 {
-    let mut x = [0u64; 80];
-    let answer = eliminate_rows(slow, n, m, rows, constants, &mut x[..n], numbers, words);
-    Came { answer, x }
-}
-
-fn by_both(
-    n: usize,
-    m: usize,
-    rows: &[u64],
-    constants: &[u64],
-    numbers: &mut [u32],
-    words: &mut [u64],
-) -> ByRows
-    requires { n ≤ 80 }
-{
-    let dense = by_rows(false, n, m, rows, constants, numbers, words);
-    let slow = by_rows(true, n, m, rows, constants, numbers, words);
-    ByRows { dense, slow }
-}
-
-// The four solvers, one after the other in the same work areas.
-fn by_all(
-    n: usize,
-    m: usize,
-    starts: &[u32],
-    vars: &[u32],
-    rows: &[u64],
-    constants: &[u64],
-    numbers: &mut [u32],
-    words: &mut [u64],
-) -> ByEach
-    requires { n ≤ 80 }
-{
-    let sparse = by_lists(false, n, m, starts, vars, constants, numbers, words);
-    let both = by_both(n, m, rows, constants, numbers, words);
-    let lazy = by_lists(true, n, m, starts, vars, constants, numbers, words);
-    let dense = both.dense;
-    let slow = both.slow;
+    let n = system.n;
+    let sparse = by(n, numbers, words, |x, numbers, words| {
+        gaussian_elimination(system, x, numbers, words).answer
+    });
+    let dense = by(n, numbers, words, |x, numbers, words| {
+        dense_gaussian_elimination(rows, x, numbers, words)
+    });
+    let slow = by(n, numbers, words, |x, numbers, words| {
+        slow_gaussian_elimination(rows, x, numbers, words)
+    });
+    let lazy = by(n, numbers, words, |x, numbers, words| {
+        lazy_gaussian_elimination(system, x, numbers, words).answer
+    });
     ByEach {
         sparse,
         dense,
@@ -150,24 +63,28 @@ fn by_all(
     }
 }
 
-// The first m of the rows; lent what lazy elimination or dense rows ask for at most.
-pub fn solve(n: usize, m: usize, rows: &[u64], constants: &[u64]) -> ByEach
-    requires { (n ≤ 80) × (m ≤ 61) × (2 * m ≤ length rows.now) × (m ≤ length constants.now) }
-{
+// Lent what lazy elimination or dense rows ask for at most.
+pub fn solve(equations: &Equations) -> ByEach {
     let mut starts = [0u32; 62];
     let mut vars = [0u32; 4880];
     let mut numbers = [0u32; 15549];
     let mut words = [0u64; 183];
-    let t = list_rows(n, m, rows, &mut starts, &mut vars);
-    let ends = m + 1;
-    by_all(
+    let t = list_rows(equations, &mut starts, &mut vars);
+    let (n, m) = (equations.n, equations.m);
+    let constants = &equations.constants[..m];
+    let system = System {
         n,
         m,
-        &starts[..ends],
-        &vars[..t],
-        rows,
-        &constants[..m],
-        &mut numbers,
-        &mut words,
-    )
+        starts: &starts[..m + 1],
+        vars: &vars[..t],
+        constants,
+    };
+    let rows = DenseSystem {
+        n,
+        m,
+        w: 2,
+        rows: &equations.rows,
+        constants,
+    };
+    by_all(&system, &rows, &mut numbers, &mut words)
 }
