@@ -1,4 +1,6 @@
 // The stack of vertices to visit, and the edge of the vertex on top taken off.
+// Both areas stay parameters of their own, here and above: of a struct of two slices that is lent by `&mut` the checker forgets the elements of a field
+// that a call has read, so each function would take both out first.
 ghost use Rattle.std.specs.Prelude.{◌≡◌, ◌+◌, ◌<◌, length, set};
 ghost use Rattle.peel_turns.specs.Steps.{Holds, Preloaded, Visits, Visited, TakesOff, TakenOff, Turns, Turned};
 

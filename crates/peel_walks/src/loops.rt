@@ -1,4 +1,5 @@
 // The loops over a table whose edges keep their rule: the graph's making, the peeling, and the filling.
+// The table and its n stay two parameters, here and above: a struct of both would make each clause name `table.now.edges.now` for `edges.now`.
 ghost use Rattle.std.specs.Prelude.{◌≡◌, ℕ, length};
 ghost use Rattle.gf2.specs.Equation.{Each};
 ghost use Rattle.peeling.specs.Graph.{graph_of};
