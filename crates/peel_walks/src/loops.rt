@@ -41,6 +41,7 @@ pub fn peel<M: Record>(
     ensures { PeelEnds M.high n edges.now numbers.old bytes.old numbers.new bytes.new result }
 {
     let mut h = first;
+    // No `for`: the turns say how many there are.
     while 0 < h.stack {
         h = turn::<M>(edges, n, h, numbers, bytes);
     }

@@ -48,6 +48,7 @@ pub fn exchange_front(numbers: &mut [u32], p: usize, q: usize, k: usize, n: usiz
         return 8;
     }
     let mut i = 0;
+    // No `for`: each exchange says how far it went.
     while i < k {
         i += exchange_some(numbers, p + i, q + i, n - i);
     }
