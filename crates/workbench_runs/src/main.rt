@@ -5,12 +5,15 @@ mod print;
 mod runs;
 mod sums;
 
-fn main() {
-    sums::dense_sums();
-    sums::crowds();
-    let mut tally = [0u64; 90];
-    let mut seed: u64 = 88172645463325252;
-    runs::systems(&mut tally, &mut seed);
-    runs::graphs(&mut tally, &mut seed);
-    print::counts(&tally);
+use bench_checks::tally::Tally;
+use bench_draws::random::Random;
+
+fn main(rt: HostRuntime) -> std::io::Result<()> {
+    sums::dense_sums(&rt)?;
+    sums::crowds(&rt)?;
+    let mut tally = Tally::new();
+    let mut random = Random::new(88172645463325252);
+    runs::systems(&mut tally, &mut random);
+    runs::graphs(&mut tally, &mut random);
+    print::counts(&rt, &tally)
 }

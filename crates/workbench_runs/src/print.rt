@@ -1,55 +1,29 @@
-// Lines of text and numbers.
-ghost use Rattle.std.specs.Prelude.{◌+◌, ◌≤◌, ◌<◌};
+// What came of the runs, line by line.
+use bench_checks::tally::{Caller, NUMBERS, Tally};
+use std::io;
 
-use bench_checks::tally::{COMPARED, DIFFERENT};
-
-// The number of standard output.
-const STDOUT: i32 = 1;
-
-pub fn text(bytes: &[u8]) {
-    io::write_all(STDOUT, bytes);
-}
-
-pub fn number(x: u64) {
-    io::print_decimal(STDOUT, x);
-}
-
-// The line `name number: times`, where there is something to tell.
-fn count_line(name: &[u8], answer: usize, times: u64) {
-    if times == 0 {
-        return;
+// The answers of one caller, where there is something to tell.
+fn caller_lines(rt: &impl Print, tally: &Tally, caller: Caller, name: &str) -> io::Result<()> {
+    for number in 0..NUMBERS {
+        let times = tally.times(caller, number);
+        if times != 0 {
+            println!(rt; "{name} {number}: {times}")?;
+        }
     }
-    text(name);
-    text(b" ");
-    number(answer as u64);
-    text(b": ");
-    number(times);
-    text(b"\n");
+    Ok(())
 }
 
-// The answers of one row of the tally.
-fn row_lines(tally: &[u64; 90], row: usize, name: &[u8])
-    requires { row < 8 }
-{
-    let mut k: usize = 0;
-    while k < 11 {
-        count_line(name, k, tally[row * 11 + k]);
-        k += 1;
-    }
-}
-
-pub fn counts(tally: &[u64; 90]) {
-    row_lines(tally, 0, b"sparse");
-    row_lines(tally, 1, b"dense");
-    row_lines(tally, 7, b"slow");
-    row_lines(tally, 2, b"lazy");
-    row_lines(tally, 3, b"check");
-    row_lines(tally, 4, b"peel, high");
-    row_lines(tally, 5, b"peel, low");
-    row_lines(tally, 6, b"lookup");
-    text(b"comparisons: ");
-    number(tally[COMPARED]);
-    text(b"\ndisagreements: ");
-    number(tally[DIFFERENT]);
-    text(b"\n");
+pub fn counts(rt: &impl Print, tally: &Tally) -> io::Result<()> {
+    caller_lines(rt, tally, Caller::Sparse, "sparse")?;
+    caller_lines(rt, tally, Caller::Dense, "dense")?;
+    caller_lines(rt, tally, Caller::Slow, "slow")?;
+    caller_lines(rt, tally, Caller::Lazy, "lazy")?;
+    caller_lines(rt, tally, Caller::Check, "check")?;
+    caller_lines(rt, tally, Caller::High, "peel, high")?;
+    caller_lines(rt, tally, Caller::Low, "peel, low")?;
+    caller_lines(rt, tally, Caller::Lookup, "lookup")?;
+    let compared = tally.compared();
+    let different = tally.different();
+    println!(rt; "comparisons: {compared}")?;
+    println!(rt; "disagreements: {different}")
 }

@@ -1,9 +1,12 @@
 // Seeded systems and graphs.
-ghost use Rattle.std.specs.Prelude.{◌*◌, ◌≤◌, ◌<◌, length};
+ghost use Rattle.std.specs.Prelude.{◌*◌, ◌≤◌, ◌<◌};
 
-use bench_draws::equations::{draw_equations, draw_values, spoil};
-use bench_draws::graphs::draw_edges;
-use bench_draws::random::{below, least};
+use bench_checks::tally::Tally;
+use bench_draws::equations::{Shape, draw_equations, draw_values, spoil};
+use bench_draws::graphs::{draw_edge, draw_edges};
+use bench_draws::random::Random;
+use dense_rows::DenseSystem;
+use system::System;
 
 // Every number of variables from 0 to 130, sixteen times.
 const SYSTEMS: usize = 2096;
@@ -11,167 +14,124 @@ const SYSTEMS: usize = 2096;
 const GRAPHS: usize = 1490;
 
 // Three variables an equation, or up to seven, or up to as many as there is room for.
-fn longest(seed: &mut u64, m: usize) -> usize
+fn longest(random: &mut Random, m: usize) -> usize
     requires { m ≤ 130 }
 {
-    let shape = below(seed, 4);
-    if shape == 0 {
-        return 7;
+    match random.below(4) {
+        0 => 7,
+        1 => 1024 / (m + 1),
+        _ => 3,
     }
-    if shape == 1 {
-        return 1024 / (m + 1);
-    }
-    3
 }
 
 // Equations of three have no fewer; others may be empty.
 fn shortest(longest: usize) -> usize
     ensures { result ≤ longest }
 {
-    if longest == 3 {
-        return 3;
-    }
-    0
+    if longest == 3 { 3 } else { 0 }
 }
 
-// The words that n columns take.
-fn row_words(n: usize) -> usize
-    requires { n ≤ 130 }
-    ensures { (result ≤ 3) × (n ≤ 64 * result) }
+fn draw_shape(random: &mut Random, n: usize, m: usize) -> Shape
+    requires { (n ≤ 130) × (m ≤ 130) }
+    ensures variables { (result.shortest ≤ result.longest) × (result.longest ≤ n) }
+    ensures words { (result.row_words ≤ 3) × (n ≤ 64 * result.row_words) }
 {
-    if n == 0 {
-        return 0;
+    let longest = longest(random, m).min(n);
+    Shape {
+        shortest: shortest(longest),
+        longest,
+        row_words: n.div_ceil(64),
     }
-    if n <= 64 {
-        return 1;
-    }
-    if n <= 128 {
-        return 2;
-    }
-    3
-}
-
-fn draw_bits(seed: &mut u64) -> u32
-    ensures { (0 < result) × (result ≤ 64) }
-{
-    (1 + below(seed, 64)) as u32
-}
-
-// The fewest and the most variables of an equation.
-#[derive(Clone, Copy)]
-struct Span {
-    short: usize,
-    long: usize,
-}
-
-fn draw_span(seed: &mut u64, n: usize, m: usize) -> Span
-    requires { m ≤ 130 }
-    ensures { (result.short ≤ result.long) × (result.long ≤ n) }
-{
-    let long = least(longest(seed, m), n);
-    let short = shortest(long);
-    Span { short, long }
 }
 
 // The values that planted equations have in mind.
-fn draw_plant(seed: &mut u64) -> [u64; 130] {
+fn draw_plant(random: &mut Random) -> [u64; 130] {
     let mut values = [0u64; 130];
-    let bits = draw_bits(seed);
-    draw_values(seed, bits, &mut values);
+    let bits = (1 + random.below(64)) as u32;
+    draw_values(random, bits, &mut values);
     values
 }
 
-// Spoils one of the equations if they are not to be met.
-fn spoil_unless(planted: bool, seed: &mut u64, m: usize, constants: &mut [u64])
-    requires { m ≤ length constants.old }
-{
-    if planted {
-        return;
-    }
-    spoil(seed, m, constants);
-}
-
-// A system of m equations in n variables, by all solvers.
-fn system(tally: &mut [u64; 90], seed: &mut u64, n: usize, m: usize)
+// A system of m equations in n variables, by all solvers; one of the equations is spoilt if they are not to be met.
+fn system(tally: &mut Tally, random: &mut Random, n: usize, m: usize)
     requires { (n ≤ 130) × (m ≤ 130) }
 {
     let mut starts = [0u32; 131];
     let mut vars = [0u32; 1024];
     let mut constants = [0u64; 130];
     let mut rows = [0u64; 390];
-    let values = draw_plant(seed);
-    let span = draw_span(seed, n, m);
-    let w = row_words(n);
+    let values = draw_plant(random);
+    let shape = draw_shape(random, n, m);
+    let constants = &mut constants[..m];
     let t = draw_equations(
-        seed,
-        n,
-        m,
-        w,
-        span.short,
-        span.long,
-        &values,
+        random,
+        shape,
+        &values[..n],
         &mut starts,
         &mut vars,
-        &mut constants,
+        constants,
         &mut rows,
     );
-    let planted = below(seed, 2) == 0;
-    spoil_unless(planted, seed, m, &mut constants);
-    let ends = m + 1;
-    bench_checks::systems::compare(
-        tally,
-        planted,
+    let planted = random.below(2) == 0;
+    if !planted {
+        spoil(random, constants);
+    }
+    let system = System {
         n,
         m,
-        w,
-        &starts[..ends],
-        &vars[..t],
-        &constants[..m],
-        &rows,
-    );
+        starts: &starts[..m + 1],
+        vars: &vars[..t],
+        constants,
+    };
+    let dense = DenseSystem {
+        n,
+        m,
+        w: shape.row_words,
+        rows: &rows,
+        constants,
+    };
+    bench_checks::systems::compare(tally, planted, &system, &dense);
 }
 
-pub fn systems(tally: &mut [u64; 90], seed: &mut u64) {
-    let mut k: usize = 0;
-    while k < SYSTEMS {
-        let m = below(seed, 131);
-        system(tally, seed, k % 131, m);
-        k += 1;
+pub fn systems(tally: &mut Tally, random: &mut Random) {
+    for k in 0..SYSTEMS {
+        let m = random.below(131);
+        system(tally, random, k % 131, m);
     }
 }
 
 // All vertices may be the first of an edge, or a few alone.
-fn draw_hubs(seed: &mut u64, n: usize) -> usize
+fn draw_hubs(random: &mut Random, n: usize) -> usize
     requires { 3 ≤ n }
     ensures { (0 < result) × (result ≤ n) }
 {
-    if below(seed, 4) == 0 {
-        return 1 + below(seed, 3);
+    if random.below(4) == 0 {
+        return 1 + random.below(3);
     }
     n
 }
 
 // At most five edges to four vertices.
-fn draw_size(seed: &mut u64, n: usize) -> usize
+fn draw_size(random: &mut Random, n: usize) -> usize
     requires { (3 ≤ n) × (n ≤ 300) }
     ensures { result ≤ 256 }
 {
-    least(below(seed, n + n / 4), 256)
+    random.below(n + n / 4).min(256)
 }
 
-fn graph(tally: &mut [u64; 90], seed: &mut u64, n: usize)
+fn graph(tally: &mut Tally, random: &mut Random, n: usize)
     requires { (3 ≤ n) × (n ≤ 300) }
 {
-    let hubs = draw_hubs(seed, n);
-    let m = draw_size(seed, n);
-    let table = draw_edges(seed, n, m, hubs);
-    bench_peels::graphs::compare(tally, table, m, n);
+    let hubs = draw_hubs(random, n);
+    let m = draw_size(random, n);
+    let mut table = [draw_edge(random, n, hubs); 256];
+    let edges = &mut table[..m];
+    draw_edges(random, n, hubs, edges);
+    bench_peels::graphs::compare(tally, n, edges);
 }
 
-pub fn graphs(tally: &mut [u64; 90], seed: &mut u64) {
-    let mut k: usize = 0;
-    while k < GRAPHS {
-        graph(tally, seed, 3 + k % 298);
-        k += 1;
+pub fn graphs(tally: &mut Tally, random: &mut Random) {
+    for k in 0..GRAPHS {
+        graph(tally, random, 3 + k % 298);
     }
 }

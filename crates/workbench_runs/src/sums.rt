@@ -1,21 +1,15 @@
 // The sums at the edge of a word and at the edge of a degree.
 ghost use Rattle.std.specs.Prelude.{◌+◌, ◌*◌, ◌≤◌, ◌<◌};
 
-use crate::print::{number, text};
-use answers::Answer;
+use answers::{number, place};
 use dense::dense_gaussian_elimination;
-use peelers::programs::peel_low_of;
+use dense_rows::DenseSystem;
+use peelers::calls::peel_by_sig_vals_low_mem;
 use peeling::numbers::{Edge, Vertex};
-
-fn answer_line(answer: Answer) {
-    text(b": number ");
-    number(answer.number() as u64);
-    text(b", place ");
-    number(answer.place() as u64);
-}
+use std::io;
 
 // One row with one bit and constant 9; tells the answer, and what the last variable is afterwards.
-fn dense_sum(n: usize, w: usize, bit: usize)
+fn dense_sum(rt: &impl Print, n: usize, w: usize, bit: usize) -> io::Result<()>
     requires { (0 < n) × (n ≤ 128) × (bit < 64 * w) × (w ≤ 2) }
 {
     let mut rows = [0u64; 2];
@@ -24,33 +18,25 @@ fn dense_sum(n: usize, w: usize, bit: usize)
     let mut numbers = [0u32; 1];
     let mut words = [0u64; 3];
     rows[bit / 64] = 1 << (bit % 64);
-    let answer = dense_gaussian_elimination(
+    let system = DenseSystem {
         n,
-        1,
+        m: 1,
         w,
-        &rows,
-        &constants,
-        &mut solution[..n],
-        &mut numbers,
-        &mut words,
-    );
-    text(b"dense, n ");
-    number(n as u64);
-    text(b", w ");
-    number(w as u64);
-    text(b", bit ");
-    number(bit as u64);
-    text(b", constant 9");
-    answer_line(answer);
-    text(b", last variable ");
-    number(solution[n - 1]);
-    text(b"\n");
+        rows: &rows,
+        constants: &constants,
+    };
+    let answer = dense_gaussian_elimination(&system, &mut solution[..n], &mut numbers, &mut words);
+    let number = number(&answer);
+    let place = place(&answer);
+    let last = solution[n - 1];
+    print!(rt; "dense, n {n}, w {w}, bit {bit}, constant 9: ")?;
+    println!(rt; "number {number}, place {place}, last variable {last}")
 }
 
-pub fn dense_sums() {
-    dense_sum(64, 1, 63);
-    dense_sum(65, 2, 64);
-    dense_sum(64, 2, 64);
+pub fn dense_sums(rt: &impl Print) -> io::Result<()> {
+    dense_sum(rt, 64, 1, 63)?;
+    dense_sum(rt, 65, 2, 64)?;
+    dense_sum(rt, 64, 2, 64)
 }
 
 // Edge i of a star: vertex 0, and two vertices of its own.
@@ -66,33 +52,29 @@ fn ray(i: usize) -> Edge
 }
 
 fn star() -> [Edge; 256] {
-    let first = ray(0);
-    let mut table = [first; 256];
-    let mut i = 0;
-    while i < 256 {
+    let mut table = [ray(0); 256];
+    for i in 0..256 {
         table[i] = ray(i);
-        i += 1;
     }
     table
 }
 
-fn crowd(m: usize)
+fn crowd(rt: &impl Print, m: usize) -> io::Result<()>
     requires { m ≤ 100 }
 {
     let mut solution = [0u64; 201];
     let mut numbers = [0u32; 402];
     let mut bytes = [0u8; 201];
     let n = 2 * m + 1;
-    let p = peel_low_of(star(), m, n, &mut solution[..n], &mut numbers, &mut bytes);
-    text(b"a vertex on ");
-    number(m as u64);
-    text(b" edges");
-    let answer = p.answer;
-    answer_line(answer);
-    text(b"\n");
+    let table = star();
+    let edges = &table[..m];
+    let answer = peel_by_sig_vals_low_mem(n, edges, &mut solution[..n], &mut numbers, &mut bytes);
+    let number = number(&answer);
+    let place = place(&answer);
+    println!(rt; "a vertex on {m} edges: number {number}, place {place}")
 }
 
-pub fn crowds() {
-    crowd(63);
-    crowd(64);
+pub fn crowds(rt: &impl Print) -> io::Result<()> {
+    crowd(rt, 63)?;
+    crowd(rt, 64)
 }
