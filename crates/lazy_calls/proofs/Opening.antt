@@ -1,5 +1,5 @@
 -- The first state of a lent system, and the end of its build.
-use mathlib.Core.Path.{◌≡◌, sym, ap, ◌∙◌}
+use mathlib.Core.Path.{◌≡◌, sym, ap, ◌∙◌, subst}
 use mathlib.Core.List.{List, [], ◌++◌, append-nil}
 use Prim.Native.Nat.{ℕ, ◌+◌, ◌≤◌, ◌<◌}
 use native.Mathlib.Omega.{arith}
@@ -18,6 +18,7 @@ use Rattle.lazy_setup.specs.declared.Stand.{Stand}
 use Rattle.lazy_setup.specs.Area.{numbers_of, words_of}
 use Rattle.lazy_setup.specs.Layout.{layout_of, stand_of}
 use Rattle.lazy_setup.proofs.Holding.{lists_long}
+use Rattle.lazy_setup.proofs.Offsets.{at_n, at_m}
 use Rattle.lazy_setup.proofs.Setting.{start_sized}
 use Rattle.lazy_units.specs.Units.{left}
 use Rattle.lazy_units.specs.Ending.{UnitAt}
@@ -32,11 +33,11 @@ module _ {n m : ℕ} {starts vars constants : List ℕ} (f : Fits n m starts var
       → length solution ≡ n → length numbers₀ ≡ lazy_numbers n m (length vars) → length words₀ ≡ lazy_words m
       → stand ≡ stand_of (start n sys) → numbers ≡ numbers_of n sys (start n sys) ++ drop (lazy_numbers n m (length vars)) numbers₀
       → words ≡ words_of sys (start n sys) ++ drop (lazy_words m) words₀ → layout ≡ layout_of n m (length vars)
-      → UnitAt n m layout sys (start n sys) stand numbers words solution
-  open_at numbers₀ words₀ numbers words solution long room word_room counted shown words_are placed =
+      → UnitAt layout.n layout.m layout sys (start n sys) stand numbers words solution
+  open_at {stand} {layout} numbers₀ words₀ numbers words solution long room word_room counted shown words_are placed =
       let none : drop (lazy_numbers n m (length vars)) numbers₀ ≡ [] = drop_of_length-le numbers₀ {i = lazy_numbers n m (length vars)} (omega arith) in
       let wnone : drop (lazy_words m) words₀ ≡ [] = drop_of_length-le words₀ {i = lazy_words m} (omega arith) in
-      record {
+      let unit : UnitAt n m layout sys (start n sys) stand numbers words solution = record {
         stands = record {
           fit = inv_fit n sys (start n sys) (lent n sys f.sorted f.below) (start_inv n sys (lent n sys f.sorted f.below)) f.few_variables;
           shows = record {
@@ -51,19 +52,22 @@ module _ {n m : ℕ} {starts vars constants : List ℕ} (f : Fits n m starts var
           words_are = words_are ∙ ap (λ (l : List ℕ). words_of sys (start n sys) ++ l) wnone ∙ append-nil (words_of sys (start n sys));
         };
         long = long;
-      }
+      } in
+      subst (λ (k : ℕ). UnitAt k layout.m layout sys (start n sys) stand numbers words solution) (sym (at_n n m (length vars) layout placed))
+      (subst (λ (k : ℕ). UnitAt n k layout sys (start n sys) stand numbers words solution) (sym (at_m n m (length vars) layout placed)) unit)
 
   -- enough units are left
   start_left : left (start n sys) < enough n sys
   unfolding start
   start_left = let v = start_variables n sys in let z : left (start n sys) ≤ length sys + n + (length sys + 0) = omega arith in omega arith
 
-  pub built : {stand : Stand} {layout : Layout} {numbers words solution : List ℕ} (solution' numbers' : List ℕ) (r : Answer) → UnitAt n m layout sys (start n sys) stand numbers words solution
-      → Ran n m layout stand numbers words solution solution' numbers' r → Answers (lazy_elimination n sys) r solution solution'
+  pub built : {stand : Stand} {layout : Layout} {numbers words solution : List ℕ} (solution' numbers' : List ℕ) (r : Answer) → layout ≡ layout_of n m (length vars)
+      → UnitAt layout.n layout.m layout sys (start n sys) stand numbers words solution
+      → Ran layout.n layout.m layout stand numbers words solution solution' numbers' r → Answers (lazy_elimination n sys) r solution solution'
   unfolding lazy_elimination whole_run
-  built solution' numbers' r a q = (q sys (start n sys) a).1 (enough n sys) start_left
+  built {layout = layout} solution' numbers' r placed a q = rw (at_n n m (length vars) layout placed) at ((q sys (start n sys) a).1 (enough n sys) start_left)
 
-  pub built_count : {stand : Stand} {layout : Layout} {numbers words solution : List ℕ} {t : ℕ} → UnitAt n m layout sys (start n sys) stand numbers words solution
-      → RanCount n m layout stand numbers words solution t → t ≡ lazy_cancels n sys
+  pub built_count : {stand : Stand} {layout : Layout} {numbers words solution : List ℕ} {t : ℕ} → layout ≡ layout_of n m (length vars)
+      → UnitAt layout.n layout.m layout sys (start n sys) stand numbers words solution → RanCount layout.n layout.m layout stand numbers words solution t → t ≡ lazy_cancels n sys
   unfolding lazy_cancels
-  built_count a q = q sys (start n sys) a (enough n sys) start_left
+  built_count {layout = layout} placed a q = rw (at_n n m (length vars) layout placed) at (q sys (start n sys) a (enough n sys) start_left)

@@ -25,8 +25,8 @@ fn build(system: &System, solution: &mut [u64], numbers: &mut [u32], words: &mut
 {
     let stand = setup(system, numbers, words);
     let layout = Layout::of(system.n, system.m, system.vars.len());
-    let end = run_units(numbers, words, layout, system.n, system.m, stand, solution);
-    sweep(numbers, layout, system.n, system.m);
+    let end = run_units(numbers, words, layout, stand, solution);
+    sweep(numbers, layout);
     areas::fill(words, 0, words.len(), 0);
     end
 }

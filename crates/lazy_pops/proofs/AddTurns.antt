@@ -27,22 +27,22 @@ use Rattle.lazy_pops.proofs.Reading.{from_at, to_at, listing_at}
 use Rattle.lazy_pops.proofs.CanLower.{listing_below}
 use Rattle.lazy_pops.proofs.Stacks.{but_same, but_other}
 
-pub record Adding (n m : ℕ) (layout : Layout) (sys : List Equation) (s : State) (v lens scratch list count e : ℕ) (numbers words : List ℕ) (cancelled k : ℕ) : Type 0 where
+pub record Adding (n m : ℕ) (layout : Layout) (sys : List Equation) (s : State) (v list count e : ℕ) (numbers words : List ℕ) (cancelled k : ℕ) : Type 0 where
   pub rows : List Equation
-  pub at : AddsAt n m layout sys (with_rows rows s) v lens scratch list count e numbers words
+  pub at : AddsAt n m layout sys (with_rows rows s) v list count e numbers words
   pub within : k ≤ count
   -- what is still to be done leads to the same end
   pub same : added_into (but e (drop k (listing sys v))) e rows ≡ added_into (others sys v e) e s.rows
   pub rose : Each (λ r. Rising 0 n r.vars) s.rows
   pub counted : Tally cancelled (added_cancels (but e (drop k (listing sys v))) e rows) (added_cancels (others sys v e) e s.rows)
 
-pub adding_begin : {n m : ℕ} {layout : Layout} {sys : List Equation} {s : State} {v lens scratch list count e : ℕ} {numbers words : List ℕ}
-    → AddsAt n m layout sys s v lens scratch list count e numbers words → Adding n m layout sys s v lens scratch list count e numbers words 0 0
+pub adding_begin : {n m : ℕ} {layout : Layout} {sys : List Equation} {s : State} {v list count e : ℕ} {numbers words : List ℕ}
+    → AddsAt n m layout sys s v list count e numbers words → Adding n m layout sys s v list count e numbers words 0 0
 unfolding with_rows others
 adding_begin {s = s} a = record { rows = s.rows; at = a; within = omega arith; same = refl; rose = a.rows.rising; counted = tally_begin }
 
-module _ {n m : ℕ} {layout : Layout} {sys : List Equation} {s : State} {v lens scratch list count e : ℕ} {numbers words : List ℕ} {cancelled k : ℕ}
-    (i : Adding n m layout sys s v lens scratch list count e numbers words cancelled k) where
+module _ {n m : ℕ} {layout : Layout} {sys : List Equation} {s : State} {v list count e : ℕ} {numbers words : List ℕ} {cancelled k : ℕ}
+    (i : Adding n m layout sys s v list count e numbers words cancelled k) where
   -- where the list stands
   pub list_in : list + count ≤ length numbers
   list_in =
@@ -70,7 +70,7 @@ module _ {n m : ℕ} {layout : Layout} {sys : List Equation} {s : State} {v lens
     next : drop k (listing sys v) ≡ get_or numbers (list + k) 0 ∷ drop (k + 1) (listing sys v)
     next = rw (cell_is, add-one k) (drop-cons (listing sys v) k 0 (omega (arith, i.at.count_is)))
 
-    pub adding_skip : get_or numbers (list + k) 0 ≡ e → Adding n m layout sys s v lens scratch list count e numbers words cancelled (k + 1)
+    pub adding_skip : get_or numbers (list + k) 0 ≡ e → Adding n m layout sys s v list count e numbers words cancelled (k + 1)
     adding_skip q = record {
       rows = i.rows;
       at = i.at;
@@ -80,7 +80,7 @@ module _ {n m : ℕ} {layout : Layout} {sys : List Equation} {s : State} {v lens
       counted = tally_same i.counted (ap (λ (l : List ℕ). added_cancels l e i.rows) (sym (rw next (but_same e (get_or numbers (list + k) 0) (drop (k + 1) (listing sys v)) q))));
     }
 
-    pub adding_fits : AddAt n m layout sys (with_rows i.rows s) lens scratch (get_or numbers (list + k) 0) e numbers words
+    pub adding_fits : AddAt n m layout sys (with_rows i.rows s) (get_or numbers (list + k) 0) e numbers words
     adding_fits = record { rows = i.at.rows; f_in = f_low; e_in = i.at.e_in }
 
     -- the sum that is next cancels no more than what is ahead
@@ -96,7 +96,7 @@ module _ {n m : ℕ} {layout : Layout} {sys : List Equation} {s : State} {v lens
 
     pub adding_turn : {numbers' words' : List ℕ} {r : ℕ} → get_or numbers (list + k) 0 ≢ e → AddDone n m layout sys (add_one (get_or numbers (list + k) 0) e (with_rows i.rows s)) numbers' words'
         → r ≡ common (row_of (with_rows i.rows s).rows (get_or numbers (list + k) 0)).vars (row_of (with_rows i.rows s).rows e).vars
-        → Adding n m layout sys s v lens scratch list count e numbers' words' (cancelled + r) (k + 1)
+        → Adding n m layout sys s v list count e numbers' words' (cancelled + r) (k + 1)
     unfolding with_rows add_one added_into added_cancels
     adding_turn {numbers'} {words'} q a c =
         let split : but e (drop k (listing sys v)) ≡ get_or numbers (list + k) 0 ∷ but e (drop (k + 1) (listing sys v)) =
@@ -108,8 +108,6 @@ module _ {n m : ℕ} {layout : Layout} {sys : List Equation} {s : State} {v lens
               laid = a.laid;
               words_are = a.words_are;
               rising = a.rising;
-              place = i.at.rows.place;
-              scratch_place = i.at.rows.scratch_place;
               small = i.at.rows.small;
             };
             v_in = i.at.v_in;

@@ -14,7 +14,7 @@ use Rattle.lazy_setup.specs.declared.Layout.{Layout}
 use Rattle.lazy_setup.specs.declared.Stand.{Stand}
 use Rattle.lazy_setup.specs.Area.{words_of}
 use Rattle.lazy_setup.specs.Layout.{stand_of}
-use Rattle.lazy_pops.specs.declared.Step.TheVariants.{More, Unsolvable}
+use Rattle.lazy_pops.specs.Step.{More, Unsolvable}
 use Rattle.lazy_pops.specs.Writes.{copied, CopyAt, CopyDone}
 use Rattle.lazy_pops.specs.Pops.{EquationAt, After}
 use Rattle.lazy_pops.proofs.Places.{places}
@@ -79,9 +79,9 @@ module _ {n m : â„•} {layout : Layout} {sys : List Equation} {s : State} {e : â„
   unfolding pass_over
   size_is = read_length a.shows.laid e e_low
 
-  pub copy_at : CopyAt n m layout sys (pass_over es s) layout.dense e (get_or numbers (layout.lengths + e) 0) stand.dense numbers words
+  pub copy_at : CopyAt n m layout sys (pass_over es s) e (get_or numbers (layout.lengths + e) 0) stand.dense numbers words
   unfolding pass_over words_of
-  copy_at = record { laid = a.shows.laid; words_are = a.words_are; place = refl; e_in = e_low; size = size_is; d_is = dense_is; d_in = dense_low; small = a.small }
+  copy_at = record { laid = a.shows.laid; words_are = a.words_are; e_in = e_low; size = size_is; d_is = dense_is; d_in = dense_low; small = a.small }
 
   pub equation_cells : EquationCells layout e m stand numbers words
   equation_cells =

@@ -60,7 +60,7 @@ pub record CopyCells (n m dense e len d : ℕ) (numbers words : List ℕ) : Type
   pub old_word : e < m
   pub product : m * n ≤ length numbers
 
-module _ {n m : ℕ} {layout : Layout} {sys : List Equation} {s : State} {dense e len d : ℕ} {numbers words : List ℕ} (a : CopyAt n m layout sys s dense e len d numbers words) where
+module _ {n m : ℕ} {layout : Layout} {sys : List Equation} {s : State} {e len d : ℕ} {numbers words : List ℕ} (a : CopyAt n m layout sys s e len d numbers words) where
   abbrev r : Equation
   r = row_of s.rows e
 
@@ -83,9 +83,9 @@ module _ {n m : ℕ} {layout : Layout} {sys : List Equation} {s : State} {dense 
         length-padded (length sys) (map (λ (r : Equation). r.c) s.dense) (omega arith),
       ) (omega (arith, a.laid.sized.rows, a.laid.many))
 
-  pub copy_cells : CopyCells n m dense e len d numbers words
+  pub copy_cells : CopyCells n m layout.dense e len d numbers words
   copy_cells =
-      let p = places a.laid in let b = row_before d m n a.d_in in let f = row_before e m n a.e_in in let q = a.place in
+      let p = places a.laid in let b = row_before d m n a.d_in in let f = row_before e m n a.e_in in
       let w = words_long in let g = a.size in let h = r_narrow in let i = a.e_in in let j = a.d_in in let k = a.small in
       record { from = omega arith; to = omega arith; long = omega arith; cell = omega arith; short = omega arith; word = omega arith; old_word = i; product = omega arith }
 
@@ -149,15 +149,15 @@ module _ {n m : ℕ} {layout : Layout} {sys : List Equation} {s : State} {dense 
       ∙ ap (λ (t : List ℕ). map (λ (r : Equation). r.c) s.rows ++ t)
       (rw (map-append (λ (r : Equation). r.c) s.dense (r ∷ []), ← p) (push_padded (length sys) (map (λ (r : Equation). r.c) s.dense) r.c (omega (arith, a.d_in, a.laid.many)))))
 
-  pub copy_done : CopyDone n m layout sys s e (set (put (dense + d * n) (stretch (e * n) len numbers) numbers) (dense + (m * n + (n + d))) len) (set words (m + d) (get_or words e 0))
+  pub copy_done : CopyDone n m layout sys s e (set (put (layout.dense + d * n) (stretch (e * n) len numbers) numbers) (layout.dense + (m * n + (n + d))) len) (set words (m + d) (get_or words e 0))
   unfolding segments copied part offset
   copy_done =
       let z = a.laid.sized in
       let b = row_before d m n a.d_in in
       let h = r_narrow in
       let sz : length (get_or (segments n sys s) 13 []) ≡ m * n + (n + m) = size a.laid 13 in
-      let one = write_part (segmented a.laid) 13 dense (dense_place a.laid ∙ a.place) (d * n) r.vars (omega arith) in
-      let two = write_cell one 13 dense (dense_place a.laid ∙ a.place) (m * n + (n + d)) len
+      let one = write_part (segmented a.laid) 13 layout.dense (dense_place a.laid) (d * n) r.vars (omega arith) in
+      let two = write_cell one 13 layout.dense (dense_place a.laid) (m * n + (n + d)) len
       (rw (length-put (d * n) r.vars (get_or (segments n sys s) 13 []) (omega arith)) (omega (arith, a.d_in))) in
       let l : length (s.dense ++ (r ∷ [])) ≡ d + 1 = rw (length-append s.dense (r ∷ [])) (omega (arith, a.d_is)) in
       record {

@@ -19,8 +19,8 @@ use Rattle.lazy_setup.specs.declared.Layout.{Layout}
 use Rattle.lazy_setup.specs.declared.Stand.{Stand}
 use Rattle.lazy_setup.specs.Area.{words_of}
 use Rattle.lazy_setup.specs.Layout.{stand_of}
-use Rattle.lazy_pops.specs.declared.Step.{Step}
-use Rattle.lazy_pops.specs.declared.Step.TheVariants.{More}
+use Rattle.lazy_pops.specs.Step.{Step}
+use Rattle.lazy_pops.specs.Step.{More}
 use Rattle.lazy_pops.specs.Laid.{Laid}
 use Rattle.lazy_pops.specs.Pops.{Shows, VariableAt, EquationAt, SolveDone, PopAt, After}
 use Rattle.lazy_pops.proofs.Places.{places}

@@ -1,5 +1,5 @@
 -- What is recorded of a solved equation.
-use mathlib.Core.Path.{refl, ap}
+use mathlib.Core.Path.{ap}
 use mathlib.Core.List.{List}
 use Prim.Native.Nat.{ℕ, ◌+◌, ◌-◌, ◌*◌, ◌≤◌, ◌<◌}
 use native.Mathlib.Omega.{arith}
@@ -42,10 +42,10 @@ module _ {n m : ℕ} {layout : Layout} {sys : List Equation} {s : State} {v e : 
   pub others_cells : OthersCells layout n m v numbers
   others_cells = let p = places a.laid in record { list = bounds v a.laid a.v_in; scratch = omega arith; lists = omega arith }
 
-  pub others_fit : AddsAt n m layout sys s v layout.lengths (layout.dense + m * n) (layout.lists + get_or numbers (layout.starts + v) 0)
+  pub others_fit : AddsAt n m layout sys s v (layout.lists + get_or numbers (layout.starts + v) 0)
       (get_or numbers (layout.starts + v + 1) 0 - get_or numbers (layout.starts + v) 0) e numbers words
   others_fit = record {
-    rows = record { laid = a.laid; words_are = a.words_are; rising = a.rising; place = refl; scratch_place = refl; small = a.small };
+    rows = record { laid = a.laid; words_are = a.words_are; rising = a.rising; small = a.small };
     v_in = a.v_in;
     e_in = a.e_in;
     list_is = ap (λ (x : ℕ). layout.lists + x) (from_at a.laid v (omega (arith, a.v_in)));

@@ -49,7 +49,7 @@ pub record AddCells (n m lengths scratch f e : ℕ) (numbers words : List ℕ) :
   pub f_short : get_or numbers (lengths + f) 0 ≤ n
   pub e_short : get_or numbers (lengths + e) 0 ≤ n
 
-module _ {n m : ℕ} {layout : Layout} {sys : List Equation} {s : State} {lens scratch f e : ℕ} {numbers words : List ℕ} (a : AddAt n m layout sys s lens scratch f e numbers words) where
+module _ {n m : ℕ} {layout : Layout} {sys : List Equation} {s : State} {f e : ℕ} {numbers words : List ℕ} (a : AddAt n m layout sys s f e numbers words) where
   d : Laid n m layout sys s numbers
   d = a.rows.laid
 
@@ -75,18 +75,18 @@ module _ {n m : ℕ} {layout : Layout} {sys : List Equation} {s : State} {lens s
       ∙ get_or-append (map (λ (r : Equation). r.c) s.rows) (padded (length sys) (map (λ (r : Equation). r.c) s.dense)) 0 x (omega (arith, many_rows))
       ∙ get_or-map (λ (r : Equation). r.c) s.rows x blank
 
-  length_at : (x : ℕ) → x < m → get_or numbers (lens + x) 0 ≡ length (row_of s.rows x).vars
-  length_at x h = rw (← a.rows.place) (read_length d x h)
+  length_at : (x : ℕ) → x < m → get_or numbers (layout.lengths + x) 0 ≡ length (row_of s.rows x).vars
+  length_at x h = read_length d x h
 
-  vars_at : (x : ℕ) → x < m → stretch (x * n) (get_or numbers (lens + x) 0) numbers ≡ (row_of s.rows x).vars
+  vars_at : (x : ℕ) → x < m → stretch (x * n) (get_or numbers (layout.lengths + x) 0) numbers ≡ (row_of s.rows x).vars
   vars_at x h = rw (length_at x h) (row_at d x h)
 
-  narrow_at : (x : ℕ) → x < m → get_or numbers (lens + x) 0 ≤ n
+  narrow_at : (x : ℕ) → x < m → get_or numbers (layout.lengths + x) 0 ≤ n
   narrow_at x h = let l = rising_length 0 n (row_of s.rows x).vars (omega arith) (row_rising x h) in omega (arith, length_at x h)
 
-  pub add_cells : AddCells n m lens scratch f e numbers words
+  pub add_cells : AddCells n m layout.lengths (layout.dense + m * n) f e numbers words
   add_cells =
-      let p = places d in let q = a.rows.place in let r = a.rows.scratch_place in
+      let p = places d in
       let x = row_before f m n a.f_in in let y = row_before e m n a.e_in in let w = words_longer in
       let i = a.f_in in let j = a.e_in in let k = a.rows.small in
       record { first = omega arith; second = omega arith; f_row = omega arith; e_row = omega arith; room = omega arith; f_word = omega arith; e_word = omega arith; short = k; f_short = narrow_at f i; e_short = narrow_at e j }
@@ -98,7 +98,7 @@ module _ {n m : ℕ} {layout : Layout} {sys : List Equation} {s : State} {lens s
       let k : x < length (map (λ (r : Equation). r.vars) s.rows) = rw (length-map s.rows (λ (r : Equation). r.vars)) (omega (arith, many_rows)) in
       rw (d.shown, ← g) (stretch_laid n x (map (λ (r : Equation). r.vars) s.rows) _ d.sized.narrow k)
 
-  scratch_zeros : stretch scratch n numbers ≡ replicate n 0
+  scratch_zeros : stretch (layout.dense + m * n) n numbers ≡ replicate n 0
   unfolding segments
   scratch_zeros =
       let vs : List (List ℕ) = map (λ (r : Equation). r.vars) s.dense in
@@ -106,12 +106,11 @@ module _ {n m : ℕ} {layout : Layout} {sys : List Equation} {s : State} {lens s
       let l = length_laid n vs d.sized.dense_narrow in
       let z = d.sized.dense in
       let o : length (laid n vs) ≤ length sys * n = rw (l, k) (row_begins (length s.dense) (length sys) n z) in
-      ap (λ (o : ℕ). stretch o n numbers) (sym a.rows.scratch_place)
-      ∙ read_part (segmented d) 13 layout.dense (dense_place d) (m * n) n (rw (size d 13) (omega arith))
+      read_part (segmented d) 13 layout.dense (dense_place d) (m * n) n (rw (size d 13) (omega arith))
       ∙ stretch_at (m * n) n (padded (length sys * n) (laid n vs)) (replicate n 0) (padded (length sys) (lengths s.dense))
       (length-padded (length sys * n) (laid n vs) o ∙ ap (λ (k : ℕ). k * n) (sym d.many)) (length-replicate {A = ℕ} n 0)
 
-  pub add_fits : AddFits numbers n (f * n) (get_or numbers (lens + f) 0) (e * n) (get_or numbers (lens + e) 0) scratch
+  pub add_fits : AddFits numbers n (f * n) (get_or numbers (layout.lengths + f) 0) (e * n) (get_or numbers (layout.lengths + e) 0) (layout.dense + m * n)
   add_fits =
       let c = add_cells in
       record {
@@ -136,8 +135,8 @@ module _ {n m : ℕ} {layout : Layout} {sys : List Equation} {s : State} {lens s
   total_short = let l = rising_length 0 n total.vars (omega arith) total_rising in omega arith
 
   module _ {len : ℕ} {numbers₁ : List ℕ}
-      (q : (len ≡ length (sym_diff (stretch (f * n) (get_or numbers (lens + f) 0) numbers) (stretch (e * n) (get_or numbers (lens + e) 0) numbers)))
-      × (numbers₁ ≡ put (f * n) (padded n (sym_diff (stretch (f * n) (get_or numbers (lens + f) 0) numbers) (stretch (e * n) (get_or numbers (lens + e) 0) numbers))) numbers)) where
+      (q : (len ≡ length (sym_diff (stretch (f * n) (get_or numbers (layout.lengths + f) 0) numbers) (stretch (e * n) (get_or numbers (layout.lengths + e) 0) numbers)))
+      × (numbers₁ ≡ put (f * n) (padded n (sym_diff (stretch (f * n) (get_or numbers (layout.lengths + f) 0) numbers) (stretch (e * n) (get_or numbers (layout.lengths + e) 0) numbers))) numbers)) where
     len_is : len ≡ length total.vars
     len_is = q.0 ∙ ap₂ (λ (x y : List ℕ). length (sym_diff x y)) (vars_at f a.f_in) (vars_at e a.e_in)
 
@@ -148,12 +147,12 @@ module _ {n m : ℕ} {layout : Layout} {sys : List Equation} {s : State} {lens s
     rises : (x : ℕ) → x < m → Increasing (row_of s.rows x).vars
     rises x h = rising_increasing 0 n (row_of s.rows x).vars (row_rising x h)
 
-    pub len_within : len ≤ get_or numbers (lens + f) 0 + get_or numbers (lens + e) 0
+    pub len_within : len ≤ get_or numbers (layout.lengths + f) 0 + get_or numbers (layout.lengths + e) 0
     len_within =
         let k = length-sym_diff (row_of s.rows f).vars (row_of s.rows e).vars (rises f a.f_in) (rises e a.e_in) in
         omega (arith, len_is, length_at f a.f_in, length_at e a.e_in)
 
-    pub len_shares : (get_or numbers (lens + f) 0 + get_or numbers (lens + e) 0 - len) / 2 ≡ common (row_of s.rows f).vars (row_of s.rows e).vars
+    pub len_shares : (get_or numbers (layout.lengths + f) 0 + get_or numbers (layout.lengths + e) 0 - len) / 2 ≡ common (row_of s.rows f).vars (row_of s.rows e).vars
     len_shares =
         ap₂ (λ (x y : ℕ). (x + y - len) / 2) (length_at f a.f_in) (length_at e a.e_in)
         ∙ common_half (row_of s.rows f).vars (row_of s.rows e).vars len (rises f a.f_in) (rises e a.e_in) len_is
@@ -177,7 +176,7 @@ module _ {n m : ℕ} {layout : Layout} {sys : List Equation} {s : State} {lens s
         ∙ set-append_left (map (λ (r : Equation). r.c) s.rows) (padded (length sys) (map (λ (r : Equation). r.c) s.dense)) f total.c (omega (arith, a.f_in))
         ∙ ap (λ (l : List ℕ). l ++ padded (length sys) (map (λ (r : Equation). r.c) s.dense)) (sym (map-set (λ (r : Equation). r.c) s.rows f total)))
 
-    pub add_done : AddDone n m layout sys (add_one f e s) (set numbers₁ (lens + f) len) (set words f (bit_xor (get_or words f 0) (get_or words e 0)))
+    pub add_done : AddDone n m layout sys (add_one f e s) (set numbers₁ (layout.lengths + f) len) (set words f (bit_xor (get_or words f 0) (get_or words e 0)))
     unfolding segments add_one with_rows offset
     add_done =
         let z = d.sized in
@@ -186,7 +185,7 @@ module _ {n m : ℕ} {layout : Layout} {sys : List Equation} {s : State} {lens s
         let one = write_part (segmented d) 0 0 refl (f * n) (padded n total.vars) (rw (size d 0) (omega arith)) in
         let one' : Segmented n m (listed n sys) (set (segments n sys s) 0 (put (f * n) (padded n total.vars) (rows_of n s.rows))) numbers₁ =
         rw numbers_are (rw zero-add at one) in
-        let two = write_cell one' 1 lens (lengths_after) f len (rw (size d 1) a.f_in) in
+        let two = write_cell one' 1 layout.lengths (lengths_after) f len (rw (size d 1) a.f_in) in
         record {
           laid = relaid d (add_one f e s) two
               (ap₂ (λ (x y : List ℕ). set (set (segments n sys s) 0 x) 1 y) rows_written
@@ -208,11 +207,11 @@ module _ {n m : ℕ} {layout : Layout} {sys : List Equation} {s : State} {lens s
           rising = each_set (λ (r : Equation). Rising 0 n r.vars) s.rows f total total_rising a.rows.rising;
         }
       where
-        lengths_after : offset 1 (set (segments n sys s) 0 (put (f * n) (padded n total.vars) (rows_of n s.rows))) ≡ lens
+        lengths_after : offset 1 (set (segments n sys s) 0 (put (f * n) (padded n total.vars) (rows_of n s.rows))) ≡ layout.lengths
         lengths_after =
             let b = row_before f m n a.f_in in
             let lp = length-padded n total.vars total_short in
             let r = size d 0 in
             offset_set 1 0 (put (f * n) (padded n total.vars) (rows_of n s.rows)) (segments n sys s)
             (length-put (f * n) (padded n total.vars) (rows_of n s.rows) (omega arith))
-            ∙ lengths_place d ∙ a.rows.place
+            ∙ lengths_place d

@@ -1,7 +1,9 @@
 -- An equation of priority 1 is popped.
 use mathlib.Core.Path.{◌≡◌, refl, sym, ap, ap₂, ◌∙◌, subst}
 use mathlib.Core.List.{List, [], ◌∷◌}
-use mathlib.Core.Bool.{Bool, true, false, not}
+use mathlib.Core.Bool.{Bool, true, false, not, false≢true}
+use Rattle.std.proofs.Common.{Option, Some, None, IsSome, MatchOption}
+use Rattle.std.proofs.lemmas.Option.{MatchOption-at_some}
 use Prim.Native.Nat.{ℕ, pred, ◌+◌, ◌*◌, ◌≤◌, ◌<◌}
 use native.Mathlib.Omega.{arith}
 use lib.ListN.{length, get_or, length-append}
@@ -86,11 +88,13 @@ module _ {n m : ℕ} {layout : Layout} {sys : List Equation} {s : State} {e : �
         marks = rw vars_are (each_map {P = λ u. u < n} {Q = λ u. layout.idle + u < length numbers} vars (λ u h. omega arith) vars_below);
       }
 
-  found : first_marked numbers (e * n) len layout.idle ≡ pivot_of s e
+  marked_is : (u : ℕ) → u < n → marked numbers layout.idle u ≡ is_idle s u
   unfolding pass_over
+  marked_is u h = ap (λ (x : ℕ). not (eqb x 0)) (read_idle d u h) ∙ marks (is_idle s u)
+
+  found : first_marked numbers (e * n) len layout.idle ≡ pivot_of s e
   found =
-      rw vars_are (first_same (marked numbers layout.idle) (is_idle s) vars
-      (λ u h. ap (λ (x : ℕ). not (eqb x 0)) (read_idle d u (each_listed (λ u. u < n) vars vars_below u h)) ∙ marks (is_idle s u)))
+      rw vars_are (first_same (marked numbers layout.idle) (is_idle s) vars (λ u h. marked_is u (each_listed (λ u. u < n) vars vars_below u h)))
 
   top : StackInv (length sys) s.priority (e ∷ es) s.solved s.remaining
   top = subst (λ (l : List ℕ). StackInv (length sys) s.priority l s.solved s.remaining) a.next a.inv.in_stack
@@ -105,6 +109,22 @@ module _ {n m : ℕ} {layout : Layout} {sys : List Equation} {s : State} {e : �
       each_listed (λ u. u < n) vars vars_below (pivot_of s e)
       (pivot_there n sys a.lent s.rows s.priority s.idle s.weight s.solved a.inv.in_rows a.inv.in_priority e
       (top.below e (head_listed e es)) (top.unsolved e (head_listed e es)) a.priority).1
+
+  -- the pivot is marked, so a search does not fail
+  pub idle_found : (r : Option ℕ)
+      → MatchOption r (Each (λ v. marked numbers layout.idle v ≡ false) (stretch (e * n) len numbers)) (λ v. v ≡ first_marked numbers (e * n) len layout.idle) → IsSome r
+  idle_found (Some v) h = refl
+  idle_found None h =
+      let there = pivot_there n sys a.lent s.rows s.priority s.idle s.weight s.solved a.inv.in_rows a.inv.in_priority e
+      (top.below e (head_listed e es)) (top.unsolved e (head_listed e es)) a.priority in
+      let unmarked : marked numbers layout.idle (pivot_of s e) ≡ false =
+      each_listed (λ v. marked numbers layout.idle v ≡ false) vars (rw vars_are at h) (pivot_of s e) there.1 in
+      absurd (false≢true (sym unmarked ∙ marked_is (pivot_of s e) pivot_low ∙ there.0))
+
+  pub idle_value : (r : Option ℕ) {v : ℕ}
+      → MatchOption r (Each (λ v. marked numbers layout.idle v ≡ false) (stretch (e * n) len numbers)) (λ v. v ≡ first_marked numbers (e * n) len layout.idle)
+      → r ≡ Some v → v ≡ first_marked numbers (e * n) len layout.idle
+  idle_value r {v} h q = MatchOption-at_some _ (λ v. v ≡ first_marked numbers (e * n) len layout.idle) v q h
 
   kept : Popped n sys s (solve_for sys (pivot_of s e) e es s)
   kept = rw (pop_first sys e es s a.next, equation_solve sys e es s a.priority) at (pop_keeps n sys a.lent s a.inv (left_over a))

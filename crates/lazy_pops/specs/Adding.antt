@@ -1,5 +1,5 @@
 -- One equation added into others.
-use Rattle.std.specs.Prelude.{◌≡◌, List, ℕ, ◌+◌, ◌*◌, ◌≤◌, ◌<◌, length, get_or, set}
+use Rattle.std.specs.Prelude.{◌≡◌, List, ℕ, ◌+◌, ◌≤◌, ◌<◌, length, get_or, set}
 use Rattle.gf2.specs.Equation.{Equation, Each, Rising, sum}
 use Rattle.gf2.specs.ByNumber.{row_of}
 use Rattle.answers.specs.Sizes.{max_variables}
@@ -29,25 +29,21 @@ unfolding with_rows
 add_one f e s = with_rows (set s.rows f (sum (row_of s.rows f) (row_of s.rows e))) s
 
 -- what every sum of two rows relies on
-pub record RowsAt (n m : ℕ) (layout : Layout) (sys : List Equation) (s : State) (lengths scratch : ℕ) (numbers words : List ℕ) : Type 0 where
+pub record RowsAt (n m : ℕ) (layout : Layout) (sys : List Equation) (s : State) (numbers words : List ℕ) : Type 0 where
   pub laid : Laid n m layout sys s numbers
   pub words_are : words ≡ words_of sys s
   pub rising : Each (λ r. Rising 0 n r.vars) s.rows
-  pub place : layout.lengths ≡ lengths
-  pub scratch_place : layout.dense + m * n ≡ scratch
   pub small : n ≤ max_variables
 
-pub record AddAt (n m : ℕ) (layout : Layout) (sys : List Equation) (s : State) (lengths scratch f e : ℕ) (numbers words : List ℕ) : Type 0 where
-  pub rows : RowsAt n m layout sys s lengths scratch numbers words
+pub record AddAt (n m : ℕ) (layout : Layout) (sys : List Equation) (s : State) (f e : ℕ) (numbers words : List ℕ) : Type 0 where
+  pub rows : RowsAt n m layout sys s numbers words
   pub f_in : f < m
   pub e_in : e < m
 
-pub record AddReady (n lengths scratch f e : ℕ) (numbers words : List ℕ) : Type 0 where
-  pub m : ℕ
-  pub layout : Layout
+pub record AddReady (n m : ℕ) (layout : Layout) (f e : ℕ) (numbers words : List ℕ) : Type 0 where
   pub sys : List Equation
   pub s : State
-  pub at : AddAt n m layout sys s lengths scratch f e numbers words
+  pub at : AddAt n m layout sys s f e numbers words
 
 pub record AddDone (n m : ℕ) (layout : Layout) (sys : List Equation) (s' : State) (numbers' words' : List ℕ) : Type 0 where
   pub laid : Laid n m layout sys s' numbers'
@@ -55,20 +51,18 @@ pub record AddDone (n m : ℕ) (layout : Layout) (sys : List Equation) (s' : Sta
   pub rising : Each (λ r. Rising 0 n r.vars) s'.rows
 
 -- the equations of variable v stand from `list` on
-pub record AddsAt (n m : ℕ) (layout : Layout) (sys : List Equation) (s : State) (v lengths scratch list count e : ℕ) (numbers words : List ℕ) : Type 0 where
-  pub rows : RowsAt n m layout sys s lengths scratch numbers words
+pub record AddsAt (n m : ℕ) (layout : Layout) (sys : List Equation) (s : State) (v list count e : ℕ) (numbers words : List ℕ) : Type 0 where
+  pub rows : RowsAt n m layout sys s numbers words
   pub v_in : v < n
   pub e_in : e < m
   pub list_is : list ≡ layout.lists + get_or (starts_from sys 0 0 n) v 0
   pub count_is : count ≡ length (listing sys v)
 
-pub record AddsReady (n lengths scratch list count e : ℕ) (numbers words : List ℕ) : Type 0 where
-  pub m : ℕ
-  pub layout : Layout
+pub record AddsReady (n m : ℕ) (layout : Layout) (list count e : ℕ) (numbers words : List ℕ) : Type 0 where
   pub sys : List Equation
   pub s : State
   pub v : ℕ
-  pub at : AddsAt n m layout sys s v lengths scratch list count e numbers words
+  pub at : AddsAt n m layout sys s v list count e numbers words
 
 -- equation e can be added into the others that listed v
 pub record OthersAt (n m : ℕ) (layout : Layout) (sys : List Equation) (s : State) (v e : ℕ) (numbers words : List ℕ) : Type 0 where

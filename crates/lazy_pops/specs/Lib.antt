@@ -1,3 +1,4 @@
+pub mod Step
 pub mod Lowering
 pub mod Laid
 pub mod Writes

@@ -9,8 +9,8 @@ use Rattle.lazy_setup.specs.declared.Layout.{Layout}
 use Rattle.lazy_setup.specs.declared.Stand.{Stand}
 use Rattle.lazy_setup.specs.Area.{words_of}
 use Rattle.lazy_setup.specs.Layout.{stand_of}
-use Rattle.lazy_pops.specs.declared.Step.{Step}
-use Rattle.lazy_pops.specs.declared.Step.TheVariants.{More, Solved, Unsolvable}
+use Rattle.lazy_pops.specs.Step.{Step}
+use Rattle.lazy_pops.specs.Step.{More, Solved, Unsolvable}
 use Rattle.lazy_pops.specs.Laid.{Laid}
 
 -- the numbers show the state, and the stand says how far its lists reach

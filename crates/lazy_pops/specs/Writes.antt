@@ -119,21 +119,19 @@ copied e s = record {
 }
 
 -- equation e can be copied
-pub record CopyAt (n m : ℕ) (layout : Layout) (sys : List Equation) (s : State) (dense e len d : ℕ) (numbers words : List ℕ) : Type 0 where
+pub record CopyAt (n m : ℕ) (layout : Layout) (sys : List Equation) (s : State) (e len d : ℕ) (numbers words : List ℕ) : Type 0 where
   pub laid : Laid n m layout sys s numbers
   pub words_are : words ≡ words_of sys s
-  pub place : layout.dense ≡ dense
   pub e_in : e < m
   pub size : len ≡ length (row_of s.rows e).vars
   pub d_is : d ≡ length s.dense
   pub d_in : d < m
   pub small : n ≤ max_variables
 
-pub record CopyReady (n m dense e len d : ℕ) (numbers words : List ℕ) : Type 0 where
-  pub layout : Layout
+pub record CopyReady (n m : ℕ) (layout : Layout) (e len d : ℕ) (numbers words : List ℕ) : Type 0 where
   pub sys : List Equation
   pub s : State
-  pub at : CopyAt n m layout sys s dense e len d numbers words
+  pub at : CopyAt n m layout sys s e len d numbers words
 
 pub record CopyDone (n m : ℕ) (layout : Layout) (sys : List Equation) (s : State) (e : ℕ) (numbers' words' : List ℕ) : Type 0 where
   pub laid : Laid n m layout sys (copied e s) numbers'

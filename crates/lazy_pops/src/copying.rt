@@ -4,24 +4,25 @@ ghost use Rattle.gf2.specs.Equation.{Equation};
 ghost use Rattle.lazy.specs.Lazy.{State, pop_dense};
 ghost use Rattle.lazy_pops.specs.Writes.{CopyAt, CopyReady, CopyDone};
 ghost use Rattle.lazy_pops.specs.Pops.{EquationAt, DenseReady, After};
+ghost use Rattle.lazy_pops.specs.Step.{step_of};
 
-use crate::Step;
 use lazy_setup::{Layout, Stand};
+use rows::Unsolvable;
 
 // Equation e, which has `len` variables, becomes row d of the dense part.
 fn copy_dense(
     numbers: &mut [u32],
     words: &mut [u64],
-    dense: usize,
-    n: usize,
-    m: usize,
+    layout: Layout,
     e: usize,
     len: usize,
     d: usize,
 )
-    requires { CopyReady n m dense e len d numbers.old words.old }
-    ensures { (layout : Layout) (sys : List Equation) (s : State) → CopyAt n m layout sys s dense e len d numbers.old words.old → CopyDone n m layout sys s e numbers.new words.new }
+    requires { CopyReady layout.n layout.m layout e len d numbers.old words.old }
+    ensures { (sys : List Equation) (s : State) → CopyAt layout.n layout.m layout sys s e len d numbers.old words.old
+        → CopyDone layout.n layout.m layout sys s e numbers.new words.new }
 {
+    let Layout { n, m, dense, .. } = layout;
     areas::copy_within(numbers, e * n, len, dense + d * n);
     numbers[dense + (m * n + (n + d))] = len as u32;
     words[m + d] = words[e];
@@ -32,25 +33,23 @@ pub fn pop_dense(
     numbers: &mut [u32],
     words: &mut [u64],
     layout: Layout,
-    n: usize,
-    m: usize,
     stand: Stand,
     e: u32,
-) -> Step
-    requires { DenseReady n m layout stand e numbers.old words.old }
-    ensures { (sys : List Equation) (s : State) (es : List ℕ) → EquationAt n m layout sys s e es 0 stand numbers.old words.old → After n m layout sys (pop_dense e es s) result numbers.new words.new }
+) -> Result<Stand, Unsolvable>
+    requires { DenseReady layout.n layout.m layout stand e numbers.old words.old }
+    ensures { (sys : List Equation) (s : State) (es : List ℕ) → EquationAt layout.n layout.m layout sys s e es 0 stand numbers.old words.old
+        → After layout.n layout.m layout sys (pop_dense e es s) (step_of result) numbers.new words.new }
 {
-    let at = layout.lengths + e as usize;
-    let len = numbers[at] as usize;
+    let len = numbers[layout.lengths + e as usize] as usize;
     if len != 0 {
-        let d = stand.dense;
-        copy_dense(numbers, words, layout.dense, n, m, e as usize, len, d);
-        let mut next = stand;
-        next.dense = d + 1;
-        return Step::More(next);
+        copy_dense(numbers, words, layout, e as usize, len, stand.dense);
+        return Ok(Stand {
+            dense: stand.dense + 1,
+            ..stand
+        });
     }
     if words[e as usize] != 0 {
-        return Step::Unsolvable;
+        return Err(Unsolvable);
     }
-    Step::More(stand)
+    Ok(stand)
 }

@@ -1,44 +1,45 @@
 // One pop: from the equation list while it has one, else from the variable list.
-ghost use Rattle.std.specs.Prelude.{◌≡◌, List, ℕ, ◌≤◌};
+ghost use Rattle.std.specs.Prelude.{◌≡◌, List, ◌≤◌};
 ghost use Rattle.gf2.specs.Equation.{Equation};
 ghost use Rattle.lazy.specs.Lazy.{State, pop};
 ghost use Rattle.lazy.specs.Cancelled.{pop_cancels};
 ghost use Rattle.lazy_pops.specs.Pops.{PopAt, PopReady, After};
+ghost use Rattle.lazy_pops.specs.Step.{step_of};
 
 use crate::copying::pop_dense;
 use crate::solving::solve_for;
 use crate::variables::pop_variable;
-use crate::{CountedStep, Step};
 use lazy_setup::{Layout, Stand};
+use rows::{Counted, Unsolvable};
 
 // The top of the equation list is popped: by its priority it goes to the dense part or solves a variable.
 fn pop_equation(
     numbers: &mut [u32],
     words: &mut [u64],
     layout: Layout,
-    n: usize,
-    m: usize,
     stand: Stand,
-) -> CountedStep
-    requires { PopReady n m layout stand numbers.old words.old × (1 ≤ stand.equations) }
-    ensures after { (sys : List Equation) (s : State) → PopAt n m layout sys s stand numbers.old words.old → After n m layout sys (pop sys s) result.step numbers.new words.new }
-    ensures cancelled_value { (sys : List Equation) (s : State) → PopAt n m layout sys s stand numbers.old words.old → result.cancelled ≡ pop_cancels sys s }
+) -> Counted<Result<Stand, Unsolvable>>
+    requires { PopReady layout.n layout.m layout stand numbers.old words.old × (1 ≤ stand.equations) }
+    ensures after { (sys : List Equation) (s : State) → PopAt layout.n layout.m layout sys s stand numbers.old words.old
+        → After layout.n layout.m layout sys (pop sys s) (step_of result.end) numbers.new words.new }
+    ensures cancelled_value { (sys : List Equation) (s : State) → PopAt layout.n layout.m layout sys s stand numbers.old words.old
+        → result.cancelled ≡ pop_cancels sys s }
 {
-    let mut next = stand;
-    next.equations = stand.equations - 1;
-    next.remaining = stand.remaining - 1;
+    let next = Stand {
+        equations: stand.equations - 1,
+        remaining: stand.remaining - 1,
+        ..stand
+    };
     let last = layout.equations + next.equations;
     let e = numbers[last];
     numbers[last] = 0;
-    let p = layout.priority + e as usize;
-    if numbers[p] == 0 {
-        let step = pop_dense(numbers, words, layout, n, m, next, e);
-        return CountedStep { step, cancelled: 0 };
+    if numbers[layout.priority + e as usize] == 0 {
+        let end = pop_dense(numbers, words, layout, next, e);
+        return Counted { end, cancelled: 0 };
     }
-    let solving = solve_for(numbers, words, layout, n, m, next, e);
-    let solved = solving.stand;
-    CountedStep {
-        step: Step::More(solved),
+    let solving = solve_for(numbers, words, layout, next, e);
+    Counted {
+        end: Ok(solving.end),
         cancelled: solving.cancelled,
     }
 }
@@ -48,20 +49,19 @@ pub fn pop(
     numbers: &mut [u32],
     words: &mut [u64],
     layout: Layout,
-    n: usize,
-    m: usize,
     stand: Stand,
-) -> CountedStep
-    requires { PopReady n m layout stand numbers.old words.old }
-    ensures after { (sys : List Equation) (s : State) → PopAt n m layout sys s stand numbers.old words.old → After n m layout sys (pop sys s) result.step numbers.new words.new }
-    ensures cancelled_value { (sys : List Equation) (s : State) → PopAt n m layout sys s stand numbers.old words.old → result.cancelled ≡ pop_cancels sys s }
+) -> Counted<Result<Stand, Unsolvable>>
+    requires { PopReady layout.n layout.m layout stand numbers.old words.old }
+    ensures after { (sys : List Equation) (s : State) → PopAt layout.n layout.m layout sys s stand numbers.old words.old
+        → After layout.n layout.m layout sys (pop sys s) (step_of result.end) numbers.new words.new }
+    ensures cancelled_value { (sys : List Equation) (s : State) → PopAt layout.n layout.m layout sys s stand numbers.old words.old
+        → result.cancelled ≡ pop_cancels sys s }
 {
     if stand.equations != 0 {
-        return pop_equation(numbers, words, layout, n, m, stand);
+        return pop_equation(numbers, words, layout, stand);
     }
-    let next = pop_variable(numbers, layout, m, stand);
-    CountedStep {
-        step: Step::More(next),
+    Counted {
+        end: Ok(pop_variable(numbers, layout, stand)),
         cancelled: 0,
     }
 }

@@ -11,6 +11,7 @@ use Rattle.areas.specs.Segments.{joined, offset}
 use Rattle.areas.proofs.Rows.{length-padded, length_laid}
 use Rattle.areas.proofs.Segments.{length_joined}
 use Rattle.lazy.specs.Lazy.{State, listing}
+use Rattle.lazy_setup.specs.declared.Layout.{Layout}
 use Rattle.lazy_setup.specs.Area.{mark, segments, lists_from, starts_from, lengths, rows_of, dense_part}
 use Rattle.lazy_setup.specs.Layout.{sizes, Shaped, layout_of, Sized}
 
@@ -31,6 +32,16 @@ length_segment zero [] = refl
 length_segment (suc k) [] = refl
 length_segment zero (s ∷ segs) = refl
 length_segment (suc k) (s ∷ segs) = length_segment k segs
+
+-- ---- the sizes of a layout
+
+pub at_n : (n m t : ℕ) (at : Layout) → at ≡ layout_of n m t → at.n ≡ n
+unfolding layout_of
+at_n n m t at same = ap (λ (a : Layout). a.n) same
+
+pub at_m : (n m t : ℕ) (at : Layout) → at ≡ layout_of n m t → at.m ≡ m
+unfolding layout_of
+at_m n m t at same = ap (λ (a : Layout). a.m) same
 
 -- ---- the segments of any list of them that has the layout's lengths
 

@@ -18,7 +18,7 @@ use Rattle.lazy_setup.specs.declared.Layout.{Layout}
 use Rattle.lazy_setup.specs.Area.{rows_of, lists_from, numbers_of}
 use Rattle.lazy_setup.specs.Layout.{layout_of}
 use Rattle.lazy_setup.specs.Tables.{tallies, running, spans, firsts}
-use Rattle.lazy_setup.proofs.Offsets.{at_lengths, at_lists, at_starts, at_weight, at_variables, at_idle, at_position, at_priority, at_equations, at_count}
+use Rattle.lazy_setup.proofs.Offsets.{at_n, at_m, at_lengths, at_lists, at_starts, at_weight, at_variables, at_idle, at_position, at_priority, at_equations, at_count}
 use Rattle.lazy_setup.proofs.Showing.{Shows, shows_read, shows_put, shows_fill, shows_inside, blanks, shows_blank}
 use Rattle.lazy_setup.proofs.Tables.{length_tallies, get_or_tallies}
 use Rattle.lazy_setup.proofs.RunningSums.{length_running}
@@ -131,10 +131,10 @@ module _ {n m : ℕ} {starts vars constants : List ℕ} (g : Fits n m starts var
     -- ---- the weights and where the lists begin
 
     pub weigh_ready : {l : List ℕ} → Shows n m (length vars) rest (loaded n m starts vars constants) l
-        → ((n ≤ max_variables) × (length vars ≤ max_listed) × Each (λ v. v < n) vars × (at.starts + (n + 1) ≤ at.weight) × (at.weight + n ≤ length l))
-        × ((stretch at.starts (n + 1) l ≡ replicate (n + 1) 0) × (stretch at.weight n l ≡ replicate n 0))
+        → ((at.n ≤ max_variables) × (length vars ≤ max_listed) × Each (λ v. v < at.n) vars × (at.starts + (at.n + 1) ≤ at.weight) × (at.weight + at.n ≤ length l))
+        × ((stretch at.starts (at.n + 1) l ≡ replicate (at.n + 1) 0) × (stretch at.weight at.n l ≡ replicate at.n 0))
     unfolding loaded blanks layout_of
-    weigh_ready s = (
+    weigh_ready s = rw (at_n n m (length vars) at same) (
       (
         g.few_variables,
         g.few_listed,
@@ -146,14 +146,14 @@ module _ {n m : ℕ} {starts vars constants : List ℕ} (g : Fits n m starts var
     )
 
     pub weigh_shows : {l l' : List ℕ} → Shows n m (length vars) rest (loaded n m starts vars constants) l
-        → l' ≡ put at.starts (running 0 (0 ∷ tallies n vars)) (put at.weight (tallies n vars) l) → Shows n m (length vars) rest (weighed n m starts vars constants) l'
+        → l' ≡ put at.starts (running 0 (0 ∷ tallies at.n vars)) (put at.weight (tallies at.n vars) l) → Shows n m (length vars) rest (weighed n m starts vars constants) l'
     unfolding weighed
     weigh_shows {l} {l'} s q =
         let a = shows_put s 4 at.weight (tallies n vars) (weight_at s) (length_tallies n vars) in
         let z = length_tallies n vars in
         let e : length (running 0 (0 ∷ tallies n vars)) ≡ n + 1 = length_running 0 (0 ∷ tallies n vars) ∙ omega arith in
         let b = shows_put a 3 at.starts (running 0 (0 ∷ tallies n vars)) (starts_at a) e in
-        rw q b
+        rw (rw (at_n n m (length vars) at same) at q) b
 
     -- ---- the lists
 
@@ -183,10 +183,10 @@ module _ {n m : ℕ} {starts vars constants : List ℕ} (g : Fits n m starts var
     weights_shown s = shows_read s 4 at.weight n (weight_at s) refl
 
     pub sort_ready : {l : List ℕ} → Shows n m (length vars) rest (listed n m starts vars constants) l
-        → ((n ≤ max_variables) × (m ≤ max_equations) × (at.weight + n ≤ at.variables) × (at.variables + n ≤ at.count) × (at.count + (m + 1) ≤ length l) × Each (λ w. w < m + 1) (stretch at.weight n l))
-        × ((stretch at.count (m + 1) l ≡ replicate (m + 1) 0) × (stretch at.variables n l ≡ replicate n 0))
+        → ((at.n ≤ max_variables) × (at.m ≤ max_equations) × (at.weight + at.n ≤ at.variables) × (at.variables + at.n ≤ at.count) × (at.count + (at.m + 1) ≤ length l) × Each (λ w. w < at.m + 1) (stretch at.weight at.n l))
+        × ((stretch at.count (at.m + 1) l ≡ replicate (at.m + 1) 0) × (stretch at.variables at.n l ≡ replicate at.n 0))
     unfolding listed weighed loaded blanks layout_of
-    sort_ready s = (
+    sort_ready s = rw ((at_n n m (length vars) at same), (at_m n m (length vars) at same)) (
       (
         g.few_variables,
         g.few_equations,
@@ -199,11 +199,11 @@ module _ {n m : ℕ} {starts vars constants : List ℕ} (g : Fits n m starts var
     )
 
     pub sort_shows : {l l' : List ℕ} → Shows n m (length vars) rest (listed n m starts vars constants) l
-        → l' ≡ put at.variables (reverse (heaviest (stretch at.weight n l) n m)) l → Shows n m (length vars) rest (sorted n m starts vars constants) l'
+        → l' ≡ put at.variables (reverse (heaviest (stretch at.weight at.n l) at.n at.m)) l → Shows n m (length vars) rest (sorted n m starts vars constants) l'
     unfolding sorted
     sort_shows {l} {l'} s q =
         let a = shows_put s 5 at.variables (reverse (heaviest (tallies n vars) n m)) (variables_at s) length_sorted in
-        rw (q, weights_shown s) a
+        rw (rw ((at_n n m (length vars) at same), (at_m n m (length vars) at same)) at q, weights_shown s) a
 
     -- ---- the first list
 
@@ -212,17 +212,17 @@ module _ {n m : ℕ} {starts vars constants : List ℕ} (g : Fits n m starts var
     priorities_shown s = shows_read s 8 at.priority m (priority_at s) refl
 
     pub first_ready : {l : List ℕ} → Shows n m (length vars) rest (sorted n m starts vars constants) l
-        → (m ≤ max_equations) × (at.priority + m ≤ at.equations) × (at.equations + m ≤ length l)
+        → (at.m ≤ max_equations) × (at.priority + at.m ≤ at.equations) × (at.equations + at.m ≤ length l)
     unfolding layout_of
     first_ready s =
-        (g.few_equations, (let a = ap (λ (a : Layout). a.priority) same in let b = ap (λ (a : Layout). a.equations) same in omega arith), shows_inside s 9 at.equations (equations_at s))
+        rw (at_m n m (length vars) at same) (g.few_equations, (let a = ap (λ (a : Layout). a.priority) same in let b = ap (λ (a : Layout). a.equations) same in omega arith), shows_inside s 9 at.equations (equations_at s))
 
     pub first_shows : {l l' : List ℕ} → Shows n m (length vars) rest (sorted n m starts vars constants) l
-        → l' ≡ put at.equations (firsts (stretch at.priority m l) m) l → Shows n m (length vars) rest (made n m starts vars constants) l'
+        → l' ≡ put at.equations (firsts (stretch at.priority at.m l) at.m) l → Shows n m (length vars) rest (made n m starts vars constants) l'
     unfolding made sorted listed weighed loaded blanks
     first_shows {l} {l'} s q =
         let a = shows_fill s 9 at.equations (firsts (spans m starts) m) (equations_at s) refl (length_firsts (spans m starts) m) in
-        rw (q, priorities_shown s) a
+        rw (rw (at_m n m (length vars) at same) at q, priorities_shown s) a
 
     -- ---- the start
 
@@ -231,10 +231,10 @@ module _ {n m : ℕ} {starts vars constants : List ℕ} (g : Fits n m starts var
     unfolding numbers_of
     made_numbers {area} s = s.shown ∙ ap (λ (segs : List (List ℕ)). joined segs ++ rest) (made_is ∙ sym (start_picture g))
 
-    pub first_many : {l : List ℕ} {r : ℕ} → Shows n m (length vars) rest (sorted n m starts vars constants) l → r ≡ length (firsts (stretch at.priority m l) m)
+    pub first_many : {l : List ℕ} {r : ℕ} → Shows n m (length vars) rest (sorted n m starts vars constants) l → r ≡ length (firsts (stretch at.priority at.m l) at.m)
         → r ≡ length (start n (equations m starts vars constants)).equations
     first_many s q =
-        q ∙ ap (λ (p : List ℕ). length (firsts p m)) (priorities_shown s)
+        rw (at_m n m (length vars) at same) at q ∙ ap (λ (p : List ℕ). length (firsts p m)) (priorities_shown s)
         ∙ ap (λ (l : List ℕ). length l) (sym (first_are g)) ∙ length-reverse (start n (equations m starts vars constants)).equations
 
 -- the room is zeroed

@@ -17,6 +17,8 @@ Shaped n m t segs = map (λ s. length s) segs ≡ sizes n m t
 unfoldable pub layout_of : ℕ → ℕ → ℕ → Layout
 layout_of n m t =
     record {
+      n = n;
+      m = m;
       lengths = m * n;
       lists = m * n + m;
       starts = m * n + m + t;

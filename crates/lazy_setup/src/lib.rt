@@ -15,9 +15,13 @@ ghost use Rattle.lazy_setup.specs.Layout.{layout_of, stand_of};
 
 use system::System;
 
-// Where each segment of the numbers begins; the rows begin at 0.
+// The sizes of a build, and where each segment of its numbers begins; the rows begin at 0.
 #[derive(Clone, Copy)]
 pub struct Layout {
+    // How many variables.
+    pub n: usize,
+    // How many equations.
+    pub m: usize,
     pub lengths: usize,
     pub lists: usize,
     pub starts: usize,
@@ -63,6 +67,8 @@ impl Layout {
         let count = pivots + m;
         let dense = count + (m + 1);
         Layout {
+            n,
+            m,
             lengths,
             lists,
             starts,
@@ -91,10 +97,10 @@ fn setup_numbers(system: &System, numbers: &mut [u32]) -> usize
     areas::fill(numbers, 0, answers::lazy_numbers(system.n, system.m, t), 0);
     let at = Layout::of(system.n, system.m, t);
     load::load(system, numbers, at);
-    lists::weigh(system.n, system.vars, numbers, at);
+    lists::weigh(system.vars, numbers, at);
     lists::fill_lists(system, numbers, at);
-    sort::sort_variables(numbers, system.n, system.m, at);
-    load::first_list(numbers, system.m, at)
+    sort::sort_variables(numbers, at);
+    load::first_list(numbers, at)
 }
 
 // The work areas of the start, from a system that keeps its rules: how far the lists reach.

@@ -31,13 +31,13 @@ fn write_lengths(system: &System, numbers: &mut [u32], at: usize)
 }
 
 // Lists the equations of priority 0 or 1, from the highest number down: how many there are.
-pub fn first_list(numbers: &mut [u32], m: usize, at: Layout) -> usize
-    requires { (m ≤ max_equations) × (at.priority + m ≤ at.equations) × (at.equations + m ≤ length numbers.old) }
-    ensures value { result ≡ length (firsts (stretch at.priority m numbers.old) m) }
-    ensures numbers_after { numbers.new ≡ put at.equations (firsts (stretch at.priority m numbers.old) m) numbers.old }
+pub fn first_list(numbers: &mut [u32], at: Layout) -> usize
+    requires { (at.m ≤ max_equations) × (at.priority + at.m ≤ at.equations) × (at.equations + at.m ≤ length numbers.old) }
+    ensures value { result ≡ length (firsts (stretch at.priority at.m numbers.old) at.m) }
+    ensures numbers_after { numbers.new ≡ put at.equations (firsts (stretch at.priority at.m numbers.old) at.m) numbers.old }
 {
     let mut top = 0;
-    for i in (0..m).rev() {
+    for i in (0..at.m).rev() {
         if numbers[at.priority + i] <= 1 {
             numbers[at.equations + top] = i as u32;
             top += 1;

@@ -24,7 +24,7 @@ use Rattle.lazy_setup.specs.declared.Layout.{Layout}
 use Rattle.lazy_setup.specs.declared.Stand.{Stand}
 use Rattle.lazy_setup.specs.Area.{dense_part, words_of}
 use Rattle.lazy_setup.specs.Layout.{stand_of}
-use Rattle.lazy_pops.specs.declared.Step.TheVariants as step
+use Rattle.lazy_pops.specs.Step as step
 use Rattle.lazy_pops.specs.Laid.{Laid}
 use Rattle.lazy_pops.proofs.Places.{places}
 use Rattle.lazy_units.specs.Clearing.{ClearFits, Cleared}

@@ -18,7 +18,7 @@ use Rattle.lazy.specs.Lazy.{State, fill, last_unit}
 use Rattle.lazy_setup.specs.declared.Layout.{Layout}
 use Rattle.lazy_setup.specs.declared.Stand.{Stand}
 use Rattle.lazy_setup.specs.Layout.{stand_of}
-use Rattle.lazy_pops.specs.declared.Step.TheVariants as step
+use Rattle.lazy_pops.specs.Step as step
 use Rattle.lazy_pops.proofs.Places.{places}
 use Rattle.lazy_units.specs.Units.{Stands, Over}
 use Rattle.lazy_units.specs.Ending.{FillAt, UnitAt}
@@ -85,15 +85,12 @@ module _ {n m : ℕ} {layout : Layout} {sys : List Equation} {s : State} {stand 
     pub finish_solved : r ≡ reduction.Reduced → {x' : List ℕ} → x' ≡ fill s.rows s.solved x → Over (last_unit n s) step.Solved solution x'
     finish_solved e f = rw (last_solved n s x (filled_is came e)) f
 
-  pub fill_at : FillAt n m layout sys s layout.lengths layout.solved layout.pivots stand.solved numbers words
+  pub fill_at : FillAt n m layout sys s stand.solved numbers words
   unfolding stand_of
   fill_at = record {
     laid = st.shows.laid;
     words_are = st.words_are;
     rising = st.fit.rising;
     solved_in = st.fit.solved_in;
-    lengths_place = refl;
-    solved_place = refl;
-    pivots_place = refl;
     k_is = ap (λ (x : Stand). x.solved) st.shows.counted;
   }

@@ -16,8 +16,8 @@ use Rattle.gf2.proofs.Tally.{Tally, tally_begin, tally_turn, tally_last}
 use Rattle.lazy_setup.specs.declared.Layout.{Layout}
 use Rattle.lazy_setup.specs.declared.Stand.{Stand}
 use Rattle.lazy_setup.specs.Layout.{stand_of}
-use Rattle.lazy_pops.specs.declared.Step.{Step}
-use Rattle.lazy_pops.specs.declared.Step.TheVariants as step
+use Rattle.lazy_pops.specs.Step.{Step}
+use Rattle.lazy_pops.specs.Step as step
 use Rattle.lazy_units.specs.Tidy.{Tidy}
 use Rattle.lazy_units.specs.Units.{Stands, left, Gone, Over}
 use Rattle.lazy_units.specs.Ending.{UnitAt}

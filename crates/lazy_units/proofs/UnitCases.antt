@@ -23,8 +23,8 @@ use Rattle.lazy.specs.Cancelled.{pop_cancels, unit_cancels}
 use Rattle.lazy.proofs.Cancelled.{unit_le}
 use Rattle.lazy_setup.specs.declared.Layout.{Layout}
 use Rattle.lazy_setup.specs.declared.Stand.{Stand}
-use Rattle.lazy_pops.specs.declared.Step.{Step}
-use Rattle.lazy_pops.specs.declared.Step.TheVariants as step
+use Rattle.lazy_pops.specs.Step.{Step}
+use Rattle.lazy_pops.specs.Step as step
 use Rattle.lazy_pops.specs.Pops as pops
 use Rattle.lazy_units.specs.Tidy.{Tidy}
 use Rattle.lazy_units.specs.Units.{Fit, Gone, Going, Over, ClearAt}

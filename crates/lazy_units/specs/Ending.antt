@@ -24,22 +24,17 @@ met numbers words n lengths e v solution =
     set solution v (bit_xor (get_or words e 0) (eval_vars (stretch (e * n) (get_or numbers (lengths + e) 0) numbers) solution))
 
 -- k equations are solved
-pub record FillAt (n m : ℕ) (layout : Layout) (sys : List Equation) (s : State) (lengths solved pivots k : ℕ) (numbers words : List ℕ) : Type 0 where
+pub record FillAt (n m : ℕ) (layout : Layout) (sys : List Equation) (s : State) (k : ℕ) (numbers words : List ℕ) : Type 0 where
   pub laid : Laid n m layout sys s numbers
   pub words_are : words ≡ words_of sys s
   pub rising : Each (λ r. Rising 0 n r.vars) s.rows
   pub solved_in : Each (λ d. (d.equation < length sys) × (d.pivot < n)) s.solved
-  pub lengths_place : layout.lengths ≡ lengths
-  pub solved_place : layout.solved ≡ solved
-  pub pivots_place : layout.pivots ≡ pivots
   pub k_is : k ≡ length s.solved
 
-pub record FillReady (n lengths solved pivots k : ℕ) (numbers words solution : List ℕ) : Type 0 where
-  pub m : ℕ
-  pub layout : Layout
+pub record FillReady (n m : ℕ) (layout : Layout) (k : ℕ) (numbers words solution : List ℕ) : Type 0 where
   pub sys : List Equation
   pub s : State
-  pub at : FillAt n m layout sys s lengths solved pivots k numbers words
+  pub at : FillAt n m layout sys s k numbers words
   pub long : length solution ≡ n
 
 -- a unit can be done

@@ -1,5 +1,8 @@
 -- The areas between two units, and what a unit leaves.
 use Rattle.std.specs.Prelude.{◌≡◌, List, ℕ, ◌+◌, ◌-◌, ◌≤◌, ◌<◌, length}
+use Rattle.std.specs.Prelude.{Option, Some, None}
+use Rattle.std.specs.Prelude as result
+use Rattle.rows.specs.declared.counted.Unsolvable.{Unsolvable as NoValues}
 use Rattle.gf2.specs.Equation.{Equation, Each, Rising}
 use Rattle.gf2.specs.Result.{Result, unsolvable, ok}
 use Rattle.answers.specs.Sizes.{max_variables}
@@ -8,10 +11,21 @@ use Rattle.lazy.specs.Lazy.{State, Build, more, ended}
 use Rattle.lazy_setup.specs.declared.Layout.{Layout}
 use Rattle.lazy_setup.specs.declared.Stand.{Stand}
 use Rattle.lazy_setup.specs.Area.{words_of}
-use Rattle.lazy_pops.specs.declared.Step.{Step}
-use Rattle.lazy_pops.specs.declared.Step.TheVariants as step
+use Rattle.lazy_pops.specs.Step.{Step}
+use Rattle.lazy_pops.specs.Step as step
 use Rattle.lazy_pops.specs.Pops.{Shows}
 use Rattle.lazy_units.specs.Tidy.{Tidy}
+
+-- what a unit's result comes to: there is more to do, or the build is solved or refused
+abbrev pub unit_step_of : result.Result (Option Stand) NoValues → Step
+unit_step_of (result.Ok (Some stand)) = step.More stand
+unit_step_of (result.Ok None) = step.Solved
+unit_step_of (result.Err e) = step.Unsolvable
+
+-- .. and what the last unit's does
+abbrev pub end_of : result.Result (Unit {0}) NoValues → Step
+end_of (result.Ok x) = step.Solved
+end_of (result.Err e) = step.Unsolvable
 
 -- what a unit relies on in the state alone
 pub record Fit (n : ℕ) (sys : List Equation) (s : State) : Type 0 where

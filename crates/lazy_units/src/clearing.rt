@@ -5,27 +5,28 @@ ghost use Rattle.sparse_rules.specs.Cancelled.{outer_row_cancels};
 ghost use Rattle.sparse_rows.specs.Reduction.{reduction_of};
 ghost use Rattle.gf2.specs.Equation.{Equation};
 ghost use Rattle.lazy.specs.Lazy.{State, dense_row};
+ghost use Rattle.lazy_pops.specs.Step.{step_of};
 ghost use Rattle.lazy_units.specs.Units.{ClearAt, ClearReady, Going};
 ghost use Rattle.lazy_units.specs.Clearing.{ClearFits, Cleared};
 
-use lazy_pops::{CountedStep, Step};
 use lazy_setup::{Layout, Stand};
 use rows::{Counted, Unsolvable};
 
-// Row i of the d rows that stand from `dense` on, and from word m on, meets each later one.
+// Row i of the d rows of the dense part meets each later one.
 fn clear_dense(
     numbers: &mut [u32],
     words: &mut [u64],
-    dense: usize,
-    n: usize,
-    m: usize,
+    layout: Layout,
     d: usize,
     i: usize,
 ) -> Counted<Result<(), Unsolvable>>
-    requires { ClearFits dense n m d i numbers.old words.old }
-    ensures cleared { Cleared dense n m d i numbers.old words.old numbers.new words.new (reduction_of result.end) }
-    ensures cancelled_value { result.cancelled ≡ outer_row_cancels i (take d (rows_of n m (drop dense numbers.old) (drop m words.old))) }
+    requires { ClearFits layout.dense layout.n layout.m d i numbers.old words.old }
+    ensures cleared { let end = reduction_of result.end in
+        Cleared layout.dense layout.n layout.m d i numbers.old words.old numbers.new words.new end }
+    ensures cancelled_value { let rows = rows_of layout.n layout.m (drop layout.dense numbers.old) (drop layout.m words.old) in
+        result.cancelled ≡ outer_row_cancels i (take d rows) }
 {
+    let Layout { n, m, dense, .. } = layout;
     sparse_rows::echelon::outer_row(&mut numbers[dense..], &mut words[m..], n, m, d, i)
 }
 
@@ -34,26 +35,28 @@ pub fn clear_row(
     numbers: &mut [u32],
     words: &mut [u64],
     layout: Layout,
-    n: usize,
-    m: usize,
     stand: Stand,
-) -> CountedStep
-    requires { ClearReady n m layout stand numbers.old words.old }
-    ensures going { (sys : List Equation) (s : State) → ClearAt n m layout sys s stand numbers.old words.old → Going n m layout sys s (dense_row s) result.step numbers.new words.new }
-    ensures cancelled_value { (sys : List Equation) (s : State) → ClearAt n m layout sys s stand numbers.old words.old → result.cancelled ≡ outer_row_cancels s.dense_done s.dense }
+) -> Counted<Result<Stand, Unsolvable>>
+    requires { ClearReady layout.n layout.m layout stand numbers.old words.old }
+    ensures going { (sys : List Equation) (s : State) → ClearAt layout.n layout.m layout sys s stand numbers.old words.old
+        → Going layout.n layout.m layout sys s (dense_row s) (step_of result.end) numbers.new words.new }
+    ensures cancelled_value { (sys : List Equation) (s : State) → ClearAt layout.n layout.m layout sys s stand numbers.old words.old
+        → result.cancelled ≡ outer_row_cancels s.dense_done s.dense }
 {
-    let row = clear_dense(numbers, words, layout.dense, n, m, stand.dense, stand.done);
+    let row = clear_dense(numbers, words, layout, stand.dense, stand.done);
     let cancelled = row.cancelled;
     match row.end {
-        Err(_) => CountedStep {
-            step: Step::Unsolvable,
+        Err(unsolvable) => Counted {
+            end: Err(unsolvable),
             cancelled,
         },
         Ok(()) => {
-            let mut next = stand;
-            next.done = stand.done + 1;
-            CountedStep {
-                step: Step::More(next),
+            let next = Stand {
+                done: stand.done + 1,
+                ..stand
+            };
+            Counted {
+                end: Ok(next),
                 cancelled,
             }
         }

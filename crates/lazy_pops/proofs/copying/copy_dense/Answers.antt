@@ -2,12 +2,6 @@ use Rattle.std.proofs.Common.{arith}
 use Rattle.lazy_pops.proofs.DenseWriting.{copy_cells, copy_done}
 use Rattle.lazy_pops.proofs.copying.copy_dense.Goals as goal
 
-pub copy_within-requires : goal.copy_within-requires
-copy_within-requires c = let b = copy_cells c.requires.at in (omega arith, omega arith)
-
-pub returns : goal.returns
-returns c = λ layout sys s a. rw c.copy_within.ensures (copy_done a)
-
 pub overflow_mul-e : goal.overflow_mul-e
 overflow_mul-e c = let b = copy_cells c.requires.at in omega arith
 
@@ -16,6 +10,9 @@ overflow_mul-d c = let b = copy_cells c.requires.at in omega arith
 
 pub overflow_add-dense : goal.overflow_add-dense
 overflow_add-dense c = let b = copy_cells c.requires.at in omega arith
+
+pub copy_within-requires : goal.copy_within-requires
+copy_within-requires c = let b = copy_cells c.requires.at in (omega arith, omega arith)
 
 pub overflow_cast-numbers : goal.overflow_cast-numbers
 overflow_cast-numbers c = let b = copy_cells c.requires.at in omega arith
@@ -52,3 +49,6 @@ offset_bounds-words-m c = let b = copy_cells c.requires.at in omega arith
 
 pub bounds-words-m : goal.bounds-words-m
 bounds-words-m c = let b = copy_cells c.requires.at in omega arith
+
+pub returns : goal.returns
+returns c = λ sys s a. rw c.copy_within.ensures (copy_done a)

@@ -1,4 +1,5 @@
 use Rattle.std.proofs.Common.{ap, arith, ◌∙◌}
+use Rattle.std.proofs.lemmas.Result.{err_from_is_err_and}
 use Rattle.sparse_rows.specs.Reduction.{reduction_of}
 use Rattle.lazy_units.proofs.LastUnit.{last_cells, finish_refused, finish_solved, fill_at}
 use Rattle.lazy_units.proofs.filling.finish.Goals as goal
@@ -31,11 +32,12 @@ pub finish_rows-requires : goal.finish_rows-requires
 finish_rows-requires c = (last_cells c.requires.at).asks
 
 pub fill_solved-requires : goal.fill_solved-requires
-fill_solved-requires c =
-    record { m = c.args.m; layout = c.args.layout; sys = c.requires.sys; s = c.requires.s; at = fill_at c.requires.at; long = c.finish_rows.auto.solution ∙ c.requires.at.long }
+fill_solved-requires c = record { sys = c.requires.sys; s = c.requires.s; at = fill_at c.requires.at; long = c.finish_rows.auto.solution ∙ c.requires.at.long }
 
-pub returns-in-Err : goal.returns-in-Err
-returns-in-Err c = λ sys s a. finish_refused a c.finish_rows.ensures (ap reduction_of c.in-Err.is)
+pub returns-in_err-finish_rows : goal.returns-in_err-finish_rows
+returns-in_err-finish_rows c = λ sys s a.
+    let p = err_from_is_err_and c.from_residual.result c.from_residual.ensures.1 in
+    rw p.1 (finish_refused a c.finish_rows.ensures (ap reduction_of c.in_err-finish_rows.was))
 
-pub returns-in-Ok : goal.returns-in-Ok
-returns-in-Ok c = λ sys s a. finish_solved a c.finish_rows.ensures (ap reduction_of c.in-Ok.is) (c.fill_solved.ensures _ _ sys s (fill_at a))
+pub returns : goal.returns
+returns c = λ sys s a. finish_solved a c.finish_rows.ensures (ap reduction_of c.in_ok-finish_rows.was) (c.fill_solved.ensures sys s (fill_at a))
