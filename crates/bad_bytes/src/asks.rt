@@ -1,49 +1,33 @@
 // The number that a file is answered with.
-ghost use Rattle.std.specs.Prelude.{◌≤◌};
+ghost use Rattle.std.specs.Prelude.{◌≤◌, IfSome};
 
 use link_file::MOST_TEXT;
 
-// 10 stands for what no text of an answer has there.
-fn digit(b: u8) -> usize
-    ensures { result ≤ 10 }
+fn digit(b: u8) -> Option<usize>
+    ensures { IfSome result (λ number. number ≤ 9) }
 {
-    if b < 48 {
-        return 10;
+    match b {
+        b'0'..=b'9' => Some(usize::from(b - b'0')),
+        _ => None,
     }
-    if 57 < b {
-        return 10;
-    }
-    wide(b - 48)
-}
-
-fn wide(b: u8) -> usize
-    requires { b ≤ 9 }
-    ensures { result ≤ 9 }
-{
-    b as usize
 }
 
 // The number stands behind the first line; the text of 9 has no header before it.
-fn number_in(text: &[u8]) -> usize
-    ensures { result ≤ 10 }
+fn number_in(text: &[u8]) -> Option<usize>
+    ensures { IfSome result (λ number. number ≤ 9) }
 {
-    let mut i: usize = 1;
-    while i < text.len() {
-        if text[i - 1] == 10 {
-            return digit(text[i]);
-        }
-        i += 1;
-    }
-    10
+    let end = text.iter().position(|b| *b == b'\n')?;
+    digit(*text.get(end + 1)?)
 }
 
-pub fn answered(file: &[u8]) -> usize
-    ensures { result ≤ 10 }
+// `None` where no text of an answer has what stands there.
+pub fn answered(file: &[u8]) -> Option<usize>
+    ensures { IfSome result (λ number. number ≤ 9) }
 {
-    let mut text = [0u8; MOST_TEXT];
+    let mut text = [0; MOST_TEXT];
     link_file::link_file(file, &mut text);
-    if text[0] == 57 {
-        return 9;
+    if text[0] == b'9' {
+        return Some(9);
     }
     number_in(&text)
 }

@@ -1,49 +1,46 @@
 // Answers counted by number, and those that the form rules out.
-ghost use Rattle.std.specs.Prelude.{◌<◌, ◌≤◌};
+ghost use Rattle.std.specs.Prelude.{◌≤◌, IfSome};
 
-use std::num::wrapping_add_u64;
+use std::io;
 
-// The number of standard output.
-const STDOUT: i32 = 1;
-
-// Where the form does not decide.
-pub const ANY: usize = 11;
-
-// Counts an answer, and in the last place one that is not what it must be.
-pub fn count(tally: &mut [u64; 12], number: usize, must: usize)
-    requires { number ≤ 10 }
-{
-    tally[number] = wrapping_add_u64(tally[number], 1);
-    if must == ANY {
-        return;
-    }
-    if number == must {
-        return;
-    }
-    tally[11] = wrapping_add_u64(tally[11], 1);
+#[derive(Clone, Copy, Default)]
+pub struct Tally {
+    numbers: [u64; 10],
+    // Texts that are none of an answer.
+    none: u64,
+    // Answers that are not what they must be.
+    against: u64,
 }
 
-// The line `name number: times`, where there is something to tell.
-fn count_line(name: &[u8], number: usize, times: u64) {
+// The line `name, number: times`, where there is something to tell.
+fn tell_number(rt: &impl Print, name: &str, number: usize, times: u64) -> io::Result<()> {
     if times == 0 {
-        return;
+        return Ok(());
     }
-    io::write_all(STDOUT, name);
-    io::write_all(STDOUT, b", number ");
-    io::print_decimal(STDOUT, number as u64);
-    io::write_all(STDOUT, b": ");
-    io::print_decimal(STDOUT, times);
-    io::write_all(STDOUT, b"\n");
+    println!(rt; "{name}, number {number}: {times}")
 }
 
-pub fn lines(tally: &[u64; 12], name: &[u8]) {
-    let mut k: usize = 0;
-    while k < 11 {
-        count_line(name, k, tally[k]);
-        k += 1;
+impl Tally {
+    // Counts an answer; `must` is `None` where the form does not decide.
+    pub fn count(&mut self, number: Option<usize>, must: Option<usize>)
+        requires { IfSome number (λ n. n ≤ 9) }
+    {
+        match number {
+            Some(n) => self.numbers[n] = self.numbers[n].wrapping_add(1),
+            None => self.none = self.none.wrapping_add(1),
+        }
+        if must.is_some() && number != must {
+            self.against = self.against.wrapping_add(1);
+        }
     }
-    io::write_all(STDOUT, name);
-    io::write_all(STDOUT, b", against the form: ");
-    io::print_decimal(STDOUT, tally[11]);
-    io::write_all(STDOUT, b"\n");
+
+    // Texts that are none of an answer are told as number 10.
+    pub fn tell(&self, rt: &impl Print, name: &str) -> io::Result<()> {
+        for (number, times) in self.numbers.iter().enumerate() {
+            tell_number(rt, name, number, *times)?;
+        }
+        tell_number(rt, name, 10, self.none)?;
+        let against = self.against;
+        println!(rt; "{name}, against the form: {against}")
+    }
 }

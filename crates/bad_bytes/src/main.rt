@@ -5,15 +5,19 @@ mod asks;
 mod counts;
 mod files;
 
-fn main() {
-    let mut tally = [0u64; 12];
-    files::changes(&mut tally, files::LAZY_FILE);
-    counts::lines(&tally, b"a byte changed, kind 2");
-    let mut tally3 = [0u64; 12];
-    files::changes(&mut tally3, files::PEEL_FILE);
-    counts::lines(&tally3, b"a byte changed, kind 3");
-    let mut cut = [0u64; 12];
-    files::truncations(&mut cut, files::LAZY_FILE);
-    files::truncations(&mut cut, files::PEEL_FILE);
-    counts::lines(&cut, b"cut short");
+use counts::Tally;
+use files::{LAZY_FILE, PEEL_FILE, changes, truncations};
+use std::io;
+
+fn main(rt: HostRuntime) -> io::Result<()> {
+    let mut lazy = Tally::default();
+    changes(&mut lazy, &LAZY_FILE);
+    lazy.tell(&rt, "a byte changed, kind 2")?;
+    let mut peel = Tally::default();
+    changes(&mut peel, &PEEL_FILE);
+    peel.tell(&rt, "a byte changed, kind 3")?;
+    let mut cut = Tally::default();
+    truncations(&mut cut, &LAZY_FILE);
+    truncations(&mut cut, &PEEL_FILE);
+    cut.tell(&rt, "cut short")
 }

@@ -8,7 +8,11 @@ use lib.ListN.{length, drop}
 use lib.Bits.{xor_zero_r}
 use Rattle.gf2.specs.Equation.{Equation, eqn, Each, eval_vars, Meets, MeetsAll}
 use Rattle.answers.specs.Sizes.{peel_low_numbers, peel_low_bytes}
-use Rattle.answers.specs.Answers.{Solved}
+use Rattle.std.specs.Prelude.{Result, Ok, Err}
+use Rattle.answers.specs.declared.refusal.Unpeeled.{Unpeeled}
+use Rattle.answers.specs.declared.refusal.Unpeeled.TheVariants as unpeeled
+use Rattle.answers.specs.Answers.{Solved, answer_by, unpeeled_of}
+use Rattle.peel_gates.specs.Ends.{peeling_of}
 use Rattle.peeling.specs.declared.numbers.Edge.{Edge}
 use Rattle.peel_rules.specs.Peel.{edge_xor, Met}
 use Rattle.peel_rules.proofs.PeelCalls.{call_solved}
@@ -51,6 +55,13 @@ edges_three w zero (b ∷ bytes) rows e = absurd (let z : ◌≡◌ {A = ℕ} 0 
 edges_three w (suc m) bytes rows e =
     let t = taken peel_kind w m bytes rows e in
     rw t.all (length_row peel_kind w bytes, edges_three w m (drop (row_bytes peel_kind w bytes) bytes) t.others t.reads)
+
+-- ---- the answer of the peeler's result
+
+pub peeling_answer : {A : Type 0} (r : Result A Unpeeled) → (peeling_of r).answer ≡ answer_by unpeeled_of r
+peeling_answer (Ok x) = refl
+peeling_answer (Err (unpeeled.Refused refusal)) = refl
+peeling_answer (Err (unpeeled.Stuck report)) = refl
 
 -- ---- what a solution of the edges is to the rows
 

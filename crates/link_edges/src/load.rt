@@ -1,60 +1,47 @@
 // The rows of a file as a table of edges.
-ghost use Rattle.std.specs.Prelude.{◌≡◌, ◌+◌, ◌*◌, ◌≤◌, length, drop};
+ghost use Rattle.std.specs.Prelude.{◌≡◌, ◌+◌, ◌*◌, ◌≤◌, length};
 ghost use Rattle.std.proofs.Math.Option.{some};
-ghost use Rattle.peel_rules.specs.Machine.{no_edge};
-ghost use Rattle.link_form.specs.Bytes.{field};
-ghost use Rattle.link_form.specs.File.{max_bytes, peel_kind, row, read_rows, rows_at};
+ghost use Rattle.link_form.specs.File.{rows_in};
 ghost use Rattle.link_form.specs.Lent.{most_rows};
+ghost use Rattle.link_form.specs.Rows.{row_of, rows_of, Passed};
 ghost use Rattle.link_edges.specs.Edges.{edge_of, table_of};
 
-use link_form::{MOST_ROWS, read_number};
+use link_form::{Kind, MOST_ROWS, Rows};
 use peeling::numbers::{Edge, Vertex};
 
 // Stands behind the edges of a table that is not full.
-fn no_edge() -> Edge
-    ensures { result ≡ no_edge }
-{
-    Edge {
-        a: Vertex(0),
-        b: Vertex(0),
-        c: Vertex(0),
-        value: 0,
-    }
-}
+const NO_EDGE: Edge = Edge {
+    a: Vertex(0),
+    b: Vertex(0),
+    c: Vertex(0),
+    value: 0,
+};
 
-fn vertex_in(bytes: &[u8], at: usize, w: usize) -> Vertex
-    requires { (at + w ≤ length bytes.now) × (w ≤ 4) }
-    ensures { result.0 ≡ field w at bytes.now }
+// Reads the next edge: three vertices, and its value.
+fn edge_in(rows: &mut Rows) -> Edge
+    requires kind { rows.old.kind ≡ Kind.Peel }
+    requires there { 3 * rows.old.width + 8 ≤ length rows.old.rest.now }
+    ensures value { result ≡ edge_of (row_of rows.old) }
+    ensures passed { Passed (3 * rows.old.width + 8) rows.old rows.new }
 {
-    Vertex(read_number(bytes, at, w) as u32)
-}
-
-// The edge that stands from `at` on: three vertices of `w` bytes, and its value.
-fn edge_in(bytes: &[u8], at: usize, w: usize) -> Edge
-    requires { (at + 3 * w + 8 ≤ length bytes.now) × (length bytes.now ≤ max_bytes) × (w ≤ 4) }
-    ensures { result ≡ edge_of (row peel_kind w (drop at bytes.now)) }
-{
-    let a = vertex_in(bytes, at, w);
-    let b = vertex_in(bytes, at + w, w);
-    let c = vertex_in(bytes, at + 2 * w, w);
-    let value = read_number(bytes, at + 3 * w, 8);
+    let a = Vertex(rows.variable());
+    let b = Vertex(rows.variable());
+    let c = Vertex(rows.variable());
+    let value = rows.constant();
     Edge { a, b, c, value }
 }
 
-// The `m` edges from `at` on.
-pub fn load_edges(bytes: &[u8], at: usize, w: usize, m: usize) -> [Edge; MOST_ROWS]
-    requires { (read_rows peel_kind w m (drop at bytes.now) ≡ some (rows_at peel_kind w m at bytes.now)) × (at ≤ length bytes.now) × (length bytes.now ≤ max_bytes)
-        × (w ≤ 4) × (m ≤ most_rows) }
-    ensures { result ≡ table_of (rows_at peel_kind w m at bytes.now) }
+// The first `m` edges.
+pub fn load_edges(rows: &Rows, m: usize) -> [Edge; MOST_ROWS]
+    requires kind { rows.now.kind ≡ Kind.Peel }
+    requires whole { rows_of m rows.now ≡ some (rows_in (rows_of m rows.now)) }
+    requires few { m ≤ most_rows }
+    ensures { result ≡ table_of (rows_in (rows_of m rows.now)) }
 {
-    let none = no_edge();
-    let mut table = [none; MOST_ROWS];
-    let mut p = at;
-    let mut i = 0;
-    while i < m {
-        table[i] = edge_in(bytes, p, w);
-        p += 3 * w + 8;
-        i += 1;
+    let mut left = *rows;
+    let mut table = [NO_EDGE; MOST_ROWS];
+    for i in 0..m {
+        table[i] = edge_in(&mut left);
     }
     table
 }

@@ -3,46 +3,49 @@ use mathlib.Core.Path.{◌≡◌, refl, sym, ap, ◌∙◌}
 use mathlib.Core.Bool.{Bool, true, false, ◌&&◌}
 use mathlib.Core.List.{List, [], ◌++◌}
 use mathlib.Core.Option.{Option, none, some}
-use Prim.Native.Nat.{ℕ, ◌+◌, ◌≤◌, ◌<◌}
+use Prim.Native.Nat.{ℕ, ◌≤◌, ◌<◌}
 use native.Mathlib.Omega.{arith}
-use lib.ListN.{length, take, drop, length-replicate, length-append}
+use lib.ListN.{length, drop, length-append}
 use lib.Dec.{eqb, leb}
-use borrow.Author.Tests.{eqb-true, ne_eqb, le-leb, lt-leb, leb-true}
+use borrow.Author.Rules.{rules}
+use borrow.Author.Tests.{eqb-true, le-leb, lt-leb, leb-true}
+use denote.Enum.Bare.{sameb, same_true}
 use Rattle.gf2.specs.Equation.{Equation, MeetsAll}
 use Rattle.gf2.proofs.Both.{both}
 use Rattle.answers.specs.Calls.{pick}
 use Rattle.answers.specs.Numbers.{number_of, place_of}
-use Rattle.answers.specs.Answers.{Answer}
-use Rattle.answers.specs.Answers.{Solved, TooLarge, BadShape, BadEntry, WrongSolution, ShortArea, Unsolvable, CrowdedVertex, Stuck, BadFile, OutsideDomain}
+use Rattle.answers.specs.Answers.{Answer, Solved, TooLarge, BadShape, BadEntry, WrongSolution, ShortArea, Unsolvable, CrowdedVertex, Stuck, BadFile, OutsideDomain}
 use Rattle.areas.specs.Stretch.{put, zeros}
-use Rattle.std.proofs.lemmas.List.{take-replicate}
-use Rattle.link_form.specs.declared.scan.Form.TheVariants.{Malformed, Described}
-use Rattle.link_form.specs.File.{Link, peel_kind, width, header_bytes, read_rows, read_file, form_of}
-use Rattle.link_lines.specs.Lines.{header_line, value_lines}
+use Rattle.link_form.specs.contracts.kind.Kind.{the_type}
+use Rattle.link_form.specs.declared.kind.Kind.{Kind}
+use Rattle.link_form.specs.declared.kind.Kind.TheVariants.{Peel}
+use Rattle.link_form.specs.declared.lent.ServedFile.{ServedFile}
+use Rattle.link_form.specs.File.{Link, peel_kind, width, header_bytes, read_rows, read_file, form_of, Malformed}
 use Rattle.link_form.specs.Lent.{most_variables, most_rows, most_listed, file_rows, Served, sizes_served}
-use Rattle.link_form.proofs.Loadable.{Loadable, loadable}
-use Rattle.link_lines.proofs.Lining.{Told, told_first, told_more, header_short, answer_short, values_short}
-use Rattle.link_rows.specs.RowsCall.{rows_call}
+use Rattle.link_form.specs.Serving.{rows_in_file}
+use Rattle.link_form.proofs.Loadable.{Loadable}
+use Rattle.link_form.proofs.SameKind.{same_kind}
+use Rattle.link_lines.specs.Lines.{header_line, value_lines}
+use Rattle.link_lines.specs.Outcomes.{Outcome, outcome, refusal_text, outcome_text}
+use Rattle.link_lines.proofs.Lining.{answer_short, values_short, refused_text}
+use Rattle.link_rows.specs.RowsCall.{rows_call, file_call}
 use Rattle.link_rows.proofs.Solving.{rows_solves}
 use Rattle.link_edges.specs.Edges.{edges_call}
 use Rattle.link_edges.proofs.Threes.{edges_three, edges_solves}
-use Rattle.link_file.specs.Text.{of_rows, of_edges, served, file_link, answered, version, text_of, file_text, link_text, most_outcome, most_text, link_call}
-use Rattle.link_lines.specs.Outcomes.{Outcome, outcome, refusal_text, outcome_text}
-use Rattle.link_lines.proofs.Telling.{refused_text, retold}
+use Rattle.link_file.specs.Text.{of_rows, of_edges, served, served_file, file_link, answered, version, text_of, file_text, link_text, most_outcome, most_text, link_call}
 
--- ---- the call of a kind
+-- ---- the call of a kind, by the code's test of it
 
-pub by_peeling : (kind n m : ℕ) (bytes solution : List ℕ) → kind ≡ peel_kind
-    → served kind n (file_rows kind m bytes) solution ≡ of_edges (edges_call n (file_rows peel_kind m bytes) solution)
+pub by_peeling : (file : ServedFile) (solution : List ℕ) → true ≡ sameb the_type file.form.kind Peel → served_file file solution ≡ of_edges (edges_call file.form.n (rows_in_file file) solution)
 unfolding served
-by_peeling kind n m bytes solution e = rw e
+by_peeling file solution e = rw (← (same_kind file.form.kind Peel), ← e)
 
-pub by_elimination : (kind n : ℕ) (rows : List Equation) (solution : List ℕ) → (kind ≡ peel_kind → ⊥) → served kind n rows solution ≡ of_rows (rows_call kind n rows solution)
+pub by_elimination : (file : ServedFile) (solution : List ℕ) → false ≡ sameb the_type file.form.kind Peel → served_file file solution ≡ of_rows (file_call file solution)
 unfolding served
-by_elimination kind n rows solution h = simp (ne_eqb kind peel_kind h)
+by_elimination file solution e = rw (← (same_kind file.form.kind Peel), ← e)
 
-pub few_cells : (n k : ℕ) → n ≤ k → length (take n (zeros k)) ≡ n
-few_cells n k h = rw (take-replicate {X = ℕ} n k 0 h) (length-replicate n 0)
+pub is_peel : (kind : Kind) → true ≡ sameb the_type kind Peel → kind ≡ Peel
+is_peel kind e = same_true the_type (search rules) kind Peel (sym e)
 
 -- ---- sizes
 
@@ -71,7 +74,7 @@ answered_large l s = rw (l.many, l.listed, s)
 -- ---- the lines
 
 pub large_text : {bytes : List ℕ} {kind n m t : ℕ} → Loadable bytes kind n m t → sizes_served n m t ≡ false → refusal_text TooLarge ≡ outcome_text (answered (file_link kind n m bytes))
-large_text l s = refused_text TooLarge [] 1 refl (omega arith) ∙ sym (ap outcome_text (answered_large l s))
+large_text l s = refused_text TooLarge [] (λ e. absurd (omega arith)) ∙ sym (ap outcome_text (answered_large l s))
 
 pub small_text : {bytes : List ℕ} {kind n m t : ℕ} → Loadable bytes kind n m t → sizes_served n m t ≡ true
     → outcome_text (served kind n (file_rows kind m bytes) (zeros n)) ≡ outcome_text (answered (file_link kind n m bytes))
@@ -144,37 +147,11 @@ malformed_text bytes e = go (read_file bytes) e
   where
     go : (o : Option Link) → form_of o ≡ Malformed → file_text o ≡ refusal_text BadFile
     go none q = refl
-    go (some f) q = absurd (let z : ◌≡◌ {A = ℕ} 0 1 = cc in omega arith)
+    go (some f) q = absurd (cc)
 
 pub described_text : {bytes : List ℕ} {kind n m t : ℕ} → Loadable bytes kind n m t → header_line version kind n m ++ outcome_text (answered (file_link kind n m bytes)) ≡ link_text bytes
 unfolding link_text text_of
 described_text l = rw (l.link, l.many)
-
--- the header is written, and the longest outcome fits behind it
-module _ (bytes : List ℕ) {kind n m t : ℕ} (form : form_of (read_file bytes) ≡ Described kind n m t) (at : ℕ) (before out : List ℕ) (room : most_text ≤ length before)
-    (ends : at ≡ 0 + length (header_line version kind n m)) (stands : out ≡ put 0 (header_line version kind n m) before) where
-  header : Told before 0 (header_line version kind n m) at out
-  header = let h = header_short version kind n m in told_first before 0 (header_line version kind n m) at out ends stands (omega arith)
-
-  pub header_room : at + most_outcome ≤ length out
-  header_room =
-      let h = header_short version kind n m in
-      let l = header.long in
-      omega arith
-
-  pub described_told : (r : ℕ) (then : List ℕ) → r ≡ at + length (outcome_text (answered (file_link kind n m bytes))) → then ≡ put at (outcome_text (answered (file_link kind n m bytes))) out
-      → (r ≡ length (link_text bytes)) × (then ≡ put 0 (link_text bytes) before)
-  described_told r then e w =
-      let l = loadable bytes kind n m t form in
-      let f = answered_fits l in
-      let h = header_room in
-      let u = told_more (outcome_text (answered (file_link kind n m bytes))) r then header e w (omega arith) in
-      let v = retold 0 r before then (described_text l) u.ends u.stands in
-      (omega (arith, v.0), v.1)
-
-pub malformed_told : (bytes before out : List ℕ) (r : ℕ) → form_of (read_file bytes) ≡ Malformed → r ≡ 0 + length (refusal_text BadFile) → out ≡ put 0 (refusal_text BadFile) before
-    → (r ≡ length (link_text bytes)) × (out ≡ put 0 (link_text bytes) before)
-malformed_told bytes before out r q e w = let v = retold 0 r before out (sym (malformed_text bytes q)) e w in (omega (arith, v.0), v.1)
 
 -- ---- the call
 

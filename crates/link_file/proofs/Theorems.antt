@@ -19,10 +19,9 @@ use Rattle.link_form.specs.Fitting.{LinkFits}
 use Rattle.link_lines.specs.Lines.{header_line, answer_line, value_lines}
 use Rattle.link_form.proofs.OneFile.{link_written}
 use Rattle.link_form.proofs.Loadable.{Loadable, loadable}
-use Rattle.link_lines.proofs.Lining.{header_short, answer_short}
+use Rattle.link_lines.proofs.Lining.{header_short, answer_short, solved_text}
 use Rattle.link_lines.specs.Outcomes.{outcome, outcome_text}
 use Rattle.link_file.specs.Text.{version, answered, file_link, text_of, file_text, link_text, most_text, LinkCall, link_call}
-use Rattle.link_lines.proofs.Telling.{solved_text}
 use Rattle.link_file.proofs.Texts.{answered_solves, answered_fits}
 
 -- a link that fits is answered as exactly the call on the system that it describes
@@ -80,7 +79,7 @@ text_solves bytes f e h =
     meets = rw (ap (λ (g : Link). g.rows) (same_link bytes f e)) (λ m. m)
 
     told : outcome_text (answered f) ≡ answer_line 0 0 ++ value_lines (answered f).values
-    told = ap (λ r. outcome_text (outcome r (answered f).values)) h ∙ sym (solved_text Solved (answered f).values 0 refl (omega arith))
+    told = ap (λ r. outcome_text (outcome r (answered f).values)) h ∙ sym (solved_text Solved (answered f).values refl)
 
 -- what is written lies within what was lent
 call_within : (bytes out : List ℕ) → (link_call bytes out).written ≤ length (link_call bytes out).out

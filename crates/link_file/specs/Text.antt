@@ -1,5 +1,6 @@
 -- What the file program prints for the bytes that it reads.
 use Rattle.std.specs.Prelude.{List, [], ◌++◌, ℕ, ◌+◌, ◌*◌, length, eqb, leb}
+use Rattle.std.specs.Prelude as told
 use Rattle.std.proofs.Math.Option.{Option, none, some}
 use Rattle.gf2.specs.Equation.{Equation}
 use Rattle.areas.specs.Stretch.{put, zeros}
@@ -9,6 +10,8 @@ use Rattle.system.specs.Fits.{listed_in}
 use Rattle.peel_rules.specs.Calls.{PeelCall}
 use Rattle.link_form.specs.File.{Link, peel_kind, read_file}
 use Rattle.link_form.specs.Lent.{most_variables, sizes_served, file_rows}
+use Rattle.link_form.specs.declared.lent.ServedFile.{ServedFile}
+use Rattle.link_form.specs.Serving.{kind_in, rows_in_file}
 use Rattle.link_lines.specs.Lines.{header_line, most_ended, most_header, most_answer}
 use Rattle.link_lines.specs.Outcomes.{Outcome, outcome, refusal_text, outcome_text}
 use Rattle.link_rows.specs.RowsCall.{rows_call}
@@ -25,6 +28,10 @@ of_edges call = outcome call.answer call.solution
 -- the call of the kind on the rows
 unfoldable pub served : ℕ → ℕ → List Equation → List ℕ → Outcome
 served kind n rows solution = pick (eqb kind peel_kind) (of_edges (edges_call n rows solution)) (of_rows (rows_call kind n rows solution))
+
+-- the call on a file that is served
+abbrev pub served_file : ServedFile → List ℕ → Outcome
+served_file file solution = served (kind_in file) file.form.n (rows_in_file file) solution
 
 -- the file of m rows that the bytes describe
 abbrev pub file_link : ℕ → ℕ → ℕ → List ℕ → Link
@@ -64,6 +71,11 @@ most_text = most_header + most_outcome
 pub record LinkCall : Type 0 where
   pub written : ℕ
   pub out : List ℕ
+
+-- how many bytes the code tells that it wrote
+abbrev pub written_of : told.Option ℕ → ℕ
+written_of told.None = 0
+written_of (told.Some k) = k
 
 -- nothing is written where the longest text would not fit
 unfoldable pub link_call : List ℕ → List ℕ → LinkCall

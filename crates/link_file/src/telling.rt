@@ -1,73 +1,47 @@
 // The lines of an answer.
 ghost use Rattle.std.specs.Prelude.{◌≡◌, ◌+◌, ◌≤◌, length};
-ghost use Rattle.areas.specs.Stretch.{put, zeros};
-ghost use Rattle.system.specs.Fits.{listed_in};
-ghost use Rattle.link_form.specs.declared.scan.Form.TheVariants.{Described};
+ghost use Rattle.areas.specs.Stretch.{zeros};
 ghost use Rattle.link_form.specs.File.{read_file, form_of};
+ghost use Rattle.link_form.specs.Forms.{described_by};
+ghost use Rattle.link_form.specs.Kinds.{number_of_kind};
 ghost use Rattle.link_lines.specs.Outcomes.{outcome_text};
-ghost use Rattle.link_form.specs.Lent.{Served, file_rows};
-ghost use Rattle.link_file.specs.Text.{served, file_link, answered, most_outcome};
+ghost use Rattle.link_lines.specs.Text.{Adds};
+ghost use Rattle.link_file.specs.Text.{served_file, file_link, answered, most_outcome};
 
 use crate::solving::solve;
-use answers::Answer;
-use link_form::{MOST_VARIABLES, sizes_served};
-use link_lines::{write_outcome, write_refusal};
+use answers::Refusal;
+use link_form::{Form, MOST_VARIABLES, ServedFile};
+use link_lines::Text;
 
 // Solves in the cells that are lent, and writes the outcome.
-fn solve_and_write(
-    bytes: &[u8],
-    kind: u64,
-    n: usize,
-    m: usize,
-    t: usize,
-    solution: &mut [u64],
-    out: &mut [u8],
-    at: usize,
-) -> usize
-    requires served { Served kind n m bytes.now × (t ≡ listed_in (file_rows kind m bytes.now)) }
-    requires solution_len { (length solution.old ≡ n) × (at + most_outcome ≤ length out.old) }
-    ensures value { result ≡ at + length (outcome_text (served kind n (file_rows kind m bytes.now) solution.old)) }
-    ensures out_after { out.new ≡ put at (outcome_text (served kind n (file_rows kind m bytes.now) solution.old)) out.old }
+fn solve_and_write(file: &ServedFile, solution: &mut [u64], text: &mut Text)
+    requires cells { length solution.old ≡ file.now.form.n }
+    requires room { text.old.end + most_outcome ≤ length text.old.out.now }
+    ensures { Adds (outcome_text (served_file file.now solution.old)) text.old text.new }
 {
-    let answer = solve(bytes, kind, n, m, t, solution);
-    write_outcome(out, at, answer, solution)
+    let answer = solve(file, solution);
+    text.outcome(&answer, solution);
 }
 
 // Lends n cells, all zero.
-fn write_served(
-    bytes: &[u8],
-    kind: u64,
-    n: usize,
-    m: usize,
-    t: usize,
-    out: &mut [u8],
-    at: usize,
-) -> usize
-    requires served { Served kind n m bytes.now × (t ≡ listed_in (file_rows kind m bytes.now)) }
-    requires most_outcome_in_bounds { at + most_outcome ≤ length out.old }
-    ensures value { result ≡ at + length (outcome_text (served kind n (file_rows kind m bytes.now) (zeros n))) }
-    ensures out_after { out.new ≡ put at (outcome_text (served kind n (file_rows kind m bytes.now) (zeros n))) out.old }
+fn write_served(file: &ServedFile, text: &mut Text)
+    requires { text.old.end + most_outcome ≤ length text.old.out.now }
+    ensures { Adds (outcome_text (served_file file.now (zeros file.now.form.n))) text.old text.new }
 {
-    let mut solution = [0u64; MOST_VARIABLES];
-    solve_and_write(bytes, kind, n, m, t, &mut solution[..n], out, at)
+    let mut solution = [0; MOST_VARIABLES];
+    solve_and_write(file, &mut solution[..file.form.n], text);
 }
 
 // Writes the answer for a file that is described: 1 for a size above the largest, before any call.
-pub fn write_answer(
-    bytes: &[u8],
-    kind: u64,
-    n: usize,
-    m: usize,
-    t: usize,
-    out: &mut [u8],
-    at: usize,
-) -> usize
-    requires { (form_of (read_file bytes.now) ≡ Described kind n m t) × (at + most_outcome ≤ length out.old) }
-    ensures value { result ≡ at + length (outcome_text (answered (file_link kind n m bytes.now))) }
-    ensures out_after { out.new ≡ put at (outcome_text (answered (file_link kind n m bytes.now))) out.old }
+pub fn write_answer(bytes: &[u8], form: &Form, text: &mut Text)
+    requires read { form_of (read_file bytes.now) ≡ described_by form.now }
+    requires room { text.old.end + most_outcome ≤ length text.old.out.now }
+    ensures { Adds (outcome_text (answered (file_link (number_of_kind form.now.kind) form.now.n form.now.m bytes.now))) text.old text.new }
 {
-    if sizes_served(n, m, t) {
-        return write_served(bytes, kind, n, m, t, out, at);
+    if form.is_served() {
+        let file = ServedFile { bytes, form: *form };
+        write_served(&file, text);
+    } else {
+        text.refusal(&Err::<(), Refusal>(Refusal::TooLarge));
     }
-    write_refusal(out, at, Answer::TooLarge)
 }

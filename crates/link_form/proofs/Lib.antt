@@ -7,3 +7,5 @@ pub mod NextRow
 pub mod OneFile
 pub mod Loadable
 pub mod Examples
+pub mod SameKind
+pub mod Behind

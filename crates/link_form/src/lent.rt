@@ -4,6 +4,7 @@ ghost use Rattle.link_form.specs.Lent.{sizes_served, Served};
 ghost use Rattle.link_form.specs.Kinds.{number_of_kind};
 
 use crate::form::Form;
+use crate::rows::Rows;
 
 // The largest n, m and t that are served.
 pub const MOST_VARIABLES: usize = 512;
@@ -33,4 +34,15 @@ pub struct ServedFile<'a> {
     pub bytes: &'a [u8],
     pub form: Form,
     ghost served: { Served (number_of_kind form.kind) form.n form.m bytes.now },
+}
+
+impl<'a> ServedFile<'a> {
+    ghost use Rattle.link_form.specs.Rows.{AreBehindHeader};
+
+    // Its rows, behind the header.
+    pub fn rows(&self) -> Rows<'a>
+        ensures { AreBehindHeader self.now.bytes.now self.now.form.kind result }
+    {
+        Rows::of_file(self.bytes, self.form.kind)
+    }
 }

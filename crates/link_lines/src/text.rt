@@ -6,6 +6,7 @@ ghost use Rattle.link_lines.specs.Text.{Adds};
 use itoa::Buffer;
 
 // The bytes that are lent, and where the text ends so far.
+#[derive(Drop)]
 pub struct Text<'a> {
     pub out: &'a mut [u8],
     pub end: usize,

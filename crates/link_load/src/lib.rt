@@ -12,7 +12,7 @@ ghost use Rattle.link_load.specs.Loading.{starts_of, vars_of, constants_of};
 use link_form::Rows;
 
 // Reads the variables of the next row into `vars`, from `to` on, and says how many they are.
-fn load_vars(rows: &mut Rows<'_>, vars: &mut [u32], to: usize) -> usize
+fn load_vars(rows: &mut Rows, vars: &mut [u32], to: usize) -> usize
     requires there { row_bytes_of rows.old ≤ length rows.old.rest.now }
     requires room { to + count_of rows.old ≤ length vars.old }
     ensures value { result ≡ count_of rows.old }
@@ -28,7 +28,7 @@ fn load_vars(rows: &mut Rows<'_>, vars: &mut [u32], to: usize) -> usize
 
 // Lays out `m` rows as `m + 1` starts, the variables and `m` constants, and says how many variables they list.
 pub fn load_rows(
-    rows: &Rows<'_>,
+    rows: &Rows,
     m: usize,
     starts: &mut [u32],
     vars: &mut [u32],
@@ -42,13 +42,13 @@ pub fn load_rows(
     ensures vars_after { vars.new ≡ put 0 (vars_of (rows_in (rows_of m rows.now))) vars.old }
     ensures constants_after { constants.new ≡ put 0 (constants_of (rows_in (rows_of m rows.now))) constants.old }
 {
-    let mut rows = *rows;
+    let mut left = *rows;
     starts[0] = 0;
     let mut listed = 0;
     for i in 0..m {
-        let count = load_vars(&mut rows, vars, listed);
+        let count = load_vars(&mut left, vars, listed);
         listed += count;
-        constants[i] = rows.constant();
+        constants[i] = left.constant();
         starts[i + 1] = listed as u32;
     }
     listed

@@ -4,26 +4,32 @@ use mathlib.Core.List.{List}
 use Prim.Native.Nat.{ℕ, ◌+◌}
 use lib.ListN.{length, take, drop}
 use lib.Seq.{take_at}
-use borrow.Author.Tests.{eq-eqb, ne_eqb}
+use mathlib.Core.Bool.{true, false}
+use denote.Enum.Bare.{sameb}
 use Rattle.gf2.specs.Equation.{Equation}
 use Rattle.areas.specs.Stretch.{put}
 use Rattle.system.specs.Fits.{listed_in}
 use Rattle.sparse_rules.specs.SparseCall.{sparse_call}
 use Rattle.lazy_calls.specs.LazyCall.{lazy_call}
-use Rattle.link_form.specs.File.{lazy_kind}
+use Rattle.link_form.specs.contracts.kind.Kind.{the_type}
+use Rattle.link_form.specs.declared.kind.Kind.{Kind}
+use Rattle.link_form.specs.declared.kind.Kind.TheVariants.{Lazy}
+use Rattle.link_form.specs.Kinds.{number_of_kind}
+use Rattle.link_form.proofs.SameKind.{same_kind}
 use Rattle.link_load.specs.Loading.{starts_of, vars_of, constants_of}
 use Rattle.link_load.proofs.LaidRows.{length_starts, length_vars, length_constants}
 use Rattle.link_rows.specs.RowsCall.{solver_of, laid_call, rows_call}
 
 -- ---- the solver of a kind
 
-pub lazy_solver : (kind : ℕ) → kind ≡ lazy_kind → solver_of kind ≡ lazy_call
+-- by the code's test of the kind
+pub lazy_solver : (kind : Kind) → true ≡ sameb the_type kind Lazy → solver_of (number_of_kind kind) ≡ lazy_call
 unfolding solver_of
-lazy_solver kind e = simp (eq-eqb kind lazy_kind e)
+lazy_solver kind e = rw (← (same_kind kind Lazy), ← e)
 
-pub sparse_solver : (kind : ℕ) → (kind ≡ lazy_kind → ⊥) → solver_of kind ≡ sparse_call
+pub sparse_solver : (kind : Kind) → false ≡ sameb the_type kind Lazy → solver_of (number_of_kind kind) ≡ sparse_call
 unfolding solver_of
-sparse_solver kind h = simp (ne_eqb kind lazy_kind h)
+sparse_solver kind e = rw (← (same_kind kind Lazy), ← e)
 
 -- ---- the arrays
 

@@ -7,6 +7,9 @@ use Rattle.lazy_calls.specs.LazyCall.{lazy_call}
 use Rattle.link_form.specs.File.{lazy_kind}
 use Rattle.link_load.specs.Loading.{starts_of, vars_of, constants_of}
 use Rattle.areas.specs.Stretch.{zeros}
+use Rattle.system.specs.declared.System.{System}
+use Rattle.link_form.specs.declared.lent.ServedFile.{ServedFile}
+use Rattle.link_form.specs.Serving.{kind_in, rows_in_file}
 use Rattle.link_form.specs.Lent.{lent_numbers, lent_words}
 
 -- the solver of a kind
@@ -19,3 +22,15 @@ laid_call kind n m starts vars constants solution = solver_of kind n m starts va
 
 abbrev pub rows_call : ℕ → ℕ → List Equation → List ℕ → Call
 rows_call kind n rows solution = laid_call kind n (length rows) (starts_of rows) (vars_of rows) (constants_of rows) solution
+
+-- ---- the same of what the code lends
+
+abbrev pub solver_on : ℕ → System → List ℕ → List ℕ → List ℕ → Call
+solver_on kind s solution numbers words = solver_of kind s.n s.m s.starts.now s.vars.now s.constants.now solution numbers words
+
+abbrev pub laid_call_on : ℕ → System → List ℕ → Call
+laid_call_on kind s solution = laid_call kind s.n s.m s.starts.now s.vars.now s.constants.now solution
+
+-- on the rows of a file that is served
+abbrev pub file_call : ServedFile → List ℕ → Call
+file_call file solution = rows_call (kind_in file) file.form.n (rows_in_file file) solution

@@ -5,4 +5,4 @@ use Rattle.link_load.proofs.load_rows.Given as goal
 
 abbrev pub invariant-loop-i : goal.invariant-loop-i
 invariant-loop-i l =
-    Loading l.initial.rows l.rows l.m (rows_in (rows_of l.m l.initial.rows)) l.fn.starts l.fn.vars l.fn.constants l.starts l.vars l.constants l.listed l.i
+    Loading l.initial.left l.left l.m (rows_in (rows_of l.m l.initial.left)) l.fn.starts l.fn.vars l.fn.constants l.starts l.vars l.constants l.listed l.i

@@ -1,8 +1,0 @@
-use Rattle.std.proofs.Common.{◌-◌, ◌≤◌}
-use Rattle.bad_bytes.proofs.counts.lines.Given as goal
-
-abbrev pub invariant-loop-k : goal.invariant-loop-k
-invariant-loop-k l = l.k ≤ 11
-
-abbrev pub decreases-loop-k : goal.decreases-loop-k
-decreases-loop-k l = 11 - l.k
