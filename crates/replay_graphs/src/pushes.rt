@@ -22,7 +22,7 @@ fn length(count: usize) -> Reply {
     valued::<()>(&Ok(()), count.min(CELLS) as u32, 0)
 }
 
-// Push, pop, length.
+// Push, pop, length, by the file's numbers: they stand here and below alone, and an enum would only name each call once more.
 fn fast_call(head: &mut Head, stack: &mut [u32], call: Call) -> Reply {
     match call.op {
         0 => told(&FastStack::push(head, stack, Vertex(call.v))),
