@@ -1,11 +1,11 @@
 -- There is memory for what is lent.
-use Rattle.std.proofs.Common.{◌≡◌, refl, Bool, true, false, ◌&&◌, leb, ◌≤◌, arith}
+use Rattle.std.proofs.Common.{◌≡◌, ℕ, refl, Bool, true, false, ◌&&◌, leb, ◌≤◌, arith}
 use borrow.Author.Tests.{leb-true}
 use Rattle.answers.specs.Calls.{pick}
 use Rattle.replay_cases.specs.declared.lend.Room.{Room}
 use Rattle.replay_cases.specs.declared.lend.Way.{Way}
 use Rattle.replay_cases.specs.declared.lend.Way.TheVariants.{Exact, More, ShortNumbers, ShortOthers, LongSolution}
-use Rattle.replay_cases.specs.Lent.{Lendable, no_room, lengths_for, lent_for}
+use Rattle.replay_cases.specs.Lent.{Lendable, no_room, way_of, lengths_for, lent_for}
 
 lengths_lendable : (way : Way) (room : Room) → room.solution ≤ 1021 → room.numbers ≤ 65533 → room.others ≤ 1021 → Lendable (lengths_for way room)
 lengths_lendable Exact room s n o = record { solution = omega arith; numbers = omega arith; others = omega arith }
@@ -26,3 +26,7 @@ lent_lendable way room = go (leb room.solution 1021) refl (leb room.numbers 6553
     go true s true n false o = none_lendable
     go true s false n o h = none_lendable
     go false s n h o g = none_lendable
+
+-- .. of any number's way
+pub lent_lendable_by : (way : ℕ) (room : Room) → Lendable (lent_for (way_of way) room)
+lent_lendable_by way = lent_lendable (way_of way)

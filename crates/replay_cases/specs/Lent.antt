@@ -20,6 +20,10 @@ no_room = record { solution = 0; numbers = 0; others = 0 }
 abbrev pub room_of : ℕ → ℕ → ℕ → Room
 room_of solution numbers others = record { solution = solution; numbers = numbers; others = others }
 
+-- the way of each number: 0 and what is past the last are exactly the room
+abbrev pub way_of : ℕ → Way
+way_of k = pick (eqb k 1) More (pick (eqb k 2) ShortNumbers (pick (eqb k 3) ShortOthers (pick (eqb k 4) LongSolution Exact)))
+
 -- exactly the room; more; one number too few; one word or byte too few; one cell of the solution too many
 abbrev pub lengths_for : Way → Room → Room
 lengths_for Exact room = room

@@ -48,6 +48,23 @@ impl Way {
     ];
 }
 
+// Any number has a way: past the last it is exactly the room.
+impl From<usize> for Way {
+    ghost use Rattle.replay_cases.specs.Lent.{way_of};
+
+    ghost from_gives = { λ number way. way ≡ way_of number };
+
+    fn from(number: usize) -> Way {
+        match number {
+            1 => Way::More,
+            2 => Way::ShortNumbers,
+            3 => Way::ShortOthers,
+            4 => Way::LongSolution,
+            _ => Way::Exact,
+        }
+    }
+}
+
 // The lengths to lend.
 pub fn lent_as(way: Way, room: Room) -> Room
     ensures value { result ≡ lent_for way room }
