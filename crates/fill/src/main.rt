@@ -13,6 +13,7 @@ fn read_full<R: Read>(input: &mut R, bytes: &mut [u8]) -> usize
     ensures { result ≤ length bytes.new }
 {
     let mut full = 0;
+    // No `for`: each read says how much came.
     while full < bytes.len() {
         match input.read(&mut bytes[full..]) {
             Ok(0) | Err(_) => break,

@@ -35,6 +35,7 @@ pub fn said_of(list: &[u64]) -> Said
             place: *place,
             panicked: *panicked == 1,
         },
+        // the definition's number that no call answers, so that such a case differs
         _ => Said {
             number: u64::MAX,
             place: 0,
