@@ -13,7 +13,7 @@ pub struct Call {
 }
 
 // Whether each call in turn makes its reply.
-pub fn replied<F: FnMut(Call) -> Reply>(calls: &[u32], replies: &[u32], mut make: F) -> bool
+pub(crate) fn replied<F: FnMut(Call) -> Reply>(calls: &[u32], replies: &[u32], mut make: F) -> bool
     requires { F.IsAlwaysCallable make }
 {
     for i in 0..calls.len() / 4 {
@@ -31,7 +31,10 @@ pub fn replied<F: FnMut(Call) -> Reply>(calls: &[u32], replies: &[u32], mut make
 }
 
 // Holds `replay` to a case: it is given the size, the calls and the replies, and says whether they agree.
-pub fn case_of<F: FnOnce(u64, &[u32], &[u32]) -> bool>(bytes: &[u8], replay: F) -> Option<Verdict>
+pub(crate) fn case_of<F: FnOnce(u64, &[u32], &[u32]) -> bool>(
+    bytes: &[u8],
+    replay: F,
+) -> Option<Verdict>
     requires { F.IsAlwaysCallable replay }
 {
     let mut lists = Lists::new(bytes);
