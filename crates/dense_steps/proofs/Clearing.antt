@@ -1,9 +1,9 @@
 -- Rows that are cleared one after the other, and the pivot row that is brought up before.
-use mathlib.Core.Path.{◌≡◌, sym, ap, ap₂, ◌∙◌}
+use mathlib.Core.Path.{◌≡◌, refl, sym, ap, ap₂, ◌∙◌, subst}
 use mathlib.Core.Logic.{◌⊎◌, inl, inr, ⊎_elim}
 use mathlib.Core.Bool.{true, false}
 use mathlib.Core.List.{List, [], ◌∷◌, ◌++◌, map, append-nil, map-append}
-use Prim.Native.Nat.{ℕ, ◌+◌, ◌-◌, ◌/◌, ◌<◌, ◌≤◌}
+use Prim.Native.Nat.{ℕ, ◌+◌, ◌-◌, ◌*◌, ◌/◌, ◌<◌, ◌≤◌}
 use native.Mathlib.Omega.{arith}
 use lib.ListN.{length, get_or, set, take, drop, length-drop, length-map, drop_of_length-le, take-append-drop}
 use lib.Seq.{drop-cons, set-set, set-get_or, take_all}
@@ -11,9 +11,11 @@ use Rattle.areas.specs.Stretch.{stretch, put}
 use Rattle.areas.proofs.Stretch.{length-stretch, stretch_none, stretch_split, put_none, put_more, get_or-put_before, get_or-put_after}
 use Rattle.dense_rows.specs.Bits.{Row, has_bit}
 use Rattle.dense_rows.specs.Steps.{no_row, xor_from, clear_row, clear_below, swap_rows, from_word}
+use Rattle.dense_rows.specs.Rows.{held, Became}
 use Rattle.dense_rows.specs.Areas.{rows_in, Holds}
 use Rattle.dense_rows.specs.declared.area.Area.{Area}
-use Rattle.dense_rows.proofs.Holding.{rows_count, holds_then, holds_in, holds_as, holds_same}
+use Rattle.dense_rows.proofs.HeldLaws.{rows_length}
+use Rattle.dense_rows.proofs.Holding.{holds_same}
 use Rattle.dense_steps.specs.Clearing.{cleared_row, cleared_rows}
 
 -- ---- one row more
@@ -65,35 +67,52 @@ module _ (c k p from : ℕ) (rows : List Row) where
 
 -- ---- a loop that clears rows
 
-module _ (col word pivot from i : ℕ) {a b : Area} (h : Holds a (cleared_rows col word pivot from i (rows_in a)) b) (f : from ≤ i) (l : i < a.m) (o : (pivot < from) ⊎ (i < pivot)) where
-  here : get_or (rows_in b) i no_row ≡ get_or (rows_in a) i no_row
-  here = let n = rows_count a in ap (λ (rows : List Row). get_or rows i no_row) (holds_in h) ∙ cleared_other col word pivot from (rows_in a) i f (omega arith) i (inr (omega arith))
+-- one step after another
+became_then : {m w : ℕ} {area mid after : List ℕ} {rows : List Row} (f : List Row → List Row) → Became m w area rows mid → Became m w mid (f (held m w mid)) after → Became m w area (f rows) after
+became_then f p q = record { long = q.long ∙ p.long; holds = q.holds ∙ ap f p.holds; past = q.past ∙ p.past }
 
-  top : get_or (rows_in b) pivot no_row ≡ get_or (rows_in a) pivot no_row
+-- the same rows, otherwise written
+pub became_as : {m w : ℕ} {area after : List ℕ} {rows rows' : List Row} → rows ≡ rows' → Became m w area rows after → Became m w area rows' after
+became_as {m} {w} {area} {after} e h = subst (λ (rows : List Row). Became m w area rows after) e h
+
+-- no step
+pub became_same : {m w : ℕ} {area : List ℕ} {rows : List Row} → held m w area ≡ rows → Became m w area rows area
+became_same e = record { long = refl; holds = e; past = refl }
+
+held_count : (m w : ℕ) (area : List ℕ) → length (held m w area) ≡ m
+held_count m w area = rows_length m w 0 area (drop (m * w) area)
+
+module _ (m w col word pivot from i : ℕ) {area mid : List ℕ} (h : Became m w area (cleared_rows col word pivot from i (held m w area)) mid) (f : from ≤ i) (l : i < m) (o : (pivot < from) ⊎ (i < pivot)) where
+  here : get_or (held m w mid) i no_row ≡ get_or (held m w area) i no_row
+  here = let n = held_count m w area in ap (λ (rows : List Row). get_or rows i no_row) h.holds ∙ cleared_other col word pivot from (held m w area) i f (omega arith) i (inr (omega arith))
+
+  top : get_or (held m w mid) pivot no_row ≡ get_or (held m w area) pivot no_row
   top =
-      let n = rows_count a in
-      ap (λ (rows : List Row). get_or rows pivot no_row) (holds_in h)
-      ∙ cleared_other col word pivot from (rows_in a) i f (omega arith) pivot (⊎_elim (λ z. inl z) (λ z. inr (omega arith)) o)
+      let n = held_count m w area in
+      ap (λ (rows : List Row). get_or rows pivot no_row) h.holds
+      ∙ cleared_other col word pivot from (held m w area) i f (omega arith) pivot (⊎_elim (λ z. inl z) (λ z. inr (omega arith)) o)
 
-  next : (r : Row) → r ≡ cleared_row col word (get_or (rows_in b) pivot no_row) (get_or (rows_in b) i no_row)
-      → set (cleared_rows col word pivot from i (rows_in a)) i r ≡ cleared_rows col word pivot from (i + 1) (rows_in a)
+  next : (r : Row) → r ≡ cleared_row col word (get_or (held m w mid) pivot no_row) (get_or (held m w mid) i no_row)
+      → set (cleared_rows col word pivot from i (held m w area)) i r ≡ cleared_rows col word pivot from (i + 1) (held m w area)
   next r e =
-      let n = rows_count a in
-      ap (set (cleared_rows col word pivot from i (rows_in a)) i) (e ∙ ap₂ (cleared_row col word) top here) ∙ cleared_more col word pivot from (rows_in a) i f (omega arith)
+      let n = held_count m w area in
+      ap (set (cleared_rows col word pivot from i (held m w area)) i) (e ∙ ap₂ (cleared_row col word) top here)
+      ∙ cleared_more col word pivot from (held m w area) i f (omega arith)
 
   -- row i has not the column
-  pub clear_skip : has_bit col (get_or (rows_in b) i no_row) ≡ false → Holds a (cleared_rows col word pivot from (i + 1) (rows_in a)) b
+  pub clear_skip : has_bit col (get_or (held m w mid) i no_row) ≡ false → Became m w area (cleared_rows col word pivot from (i + 1) (held m w area)) mid
   clear_skip e =
-      let rows : List Row = cleared_rows col word pivot from i (rows_in a) in
-      let same : set rows i (get_or (rows_in b) i no_row) ≡ rows = ap (λ (q : List Row). set rows i (get_or q i no_row)) (holds_in h) ∙ set-get_or rows i no_row in
-      holds_as (sym same ∙ next (get_or (rows_in b) i no_row) (sym (cleared_row_unset col word (get_or (rows_in b) pivot no_row) (get_or (rows_in b) i no_row) e))) h
+      let rows : List Row = cleared_rows col word pivot from i (held m w area) in
+      let same : set rows i (get_or (held m w mid) i no_row) ≡ rows = ap (λ (q : List Row). set rows i (get_or q i no_row)) h.holds ∙ set-get_or rows i no_row in
+      became_as (sym same ∙ next (get_or (held m w mid) i no_row) (sym (cleared_row_unset col word (get_or (held m w mid) pivot no_row) (get_or (held m w mid) i no_row) e))) h
 
   -- row i has it, and the pivot row is XORed into it
-  pub clear_turn : {c : Area} → has_bit col (get_or (rows_in b) i no_row) ≡ true
-      → Holds b (set (rows_in b) i (xor_from word (get_or (rows_in b) pivot no_row) (get_or (rows_in b) i no_row))) c → Holds a (cleared_rows col word pivot from (i + 1) (rows_in a)) c
+  pub clear_turn : {after : List ℕ} → has_bit col (get_or (held m w mid) i no_row) ≡ true
+      → Became m w mid (set (held m w mid) i (xor_from word (get_or (held m w mid) pivot no_row) (get_or (held m w mid) i no_row))) after
+      → Became m w area (cleared_rows col word pivot from (i + 1) (held m w area)) after
   clear_turn e g =
-      let r : Row = xor_from word (get_or (rows_in b) pivot no_row) (get_or (rows_in b) i no_row) in
-      holds_as (next r (sym (cleared_row_set col word (get_or (rows_in b) pivot no_row) (get_or (rows_in b) i no_row) e))) (holds_then (λ (rows : List Row). set rows i r) h g)
+      let r : Row = xor_from word (get_or (held m w mid) pivot no_row) (get_or (held m w mid) i no_row) in
+      became_as (next r (sym (cleared_row_set col word (get_or (held m w mid) pivot no_row) (get_or (held m w mid) i no_row) e))) (became_then (λ (rows : List Row). set rows i r) h g)
 
 -- ---- the rows below the pivot row and those above it
 
