@@ -1,8 +1,6 @@
 // Answers counted by number, and those that the form rules out.
 ghost use Rattle.std.specs.Prelude.{◌≤◌, IfSome};
 
-use std::io;
-
 #[derive(Clone, Copy, Default)]
 pub struct Tally {
     numbers: [u64; 10],
@@ -12,12 +10,12 @@ pub struct Tally {
     against: u64,
 }
 
-// The line `name, number: times`, where there is something to tell.
-fn tell_number(rt: &impl Print, name: &str, number: usize, times: u64) -> io::Result<()> {
+// The line `name, number: times`, where there is something to tell. A write that fails is passed over.
+fn tell_number(rt: &impl Print, name: &str, number: usize, times: u64) {
     if times == 0 {
-        return Ok(());
+        return;
     }
-    println!(rt; "{name}, number {number}: {times}")
+    let _ = println!(rt; "{name}, number {number}: {times}");
 }
 
 impl Tally {
@@ -35,12 +33,12 @@ impl Tally {
     }
 
     // Texts that are none of an answer are told as number 10.
-    pub fn tell(&self, rt: &impl Print, name: &str) -> io::Result<()> {
+    pub fn tell(&self, rt: &impl Print, name: &str) {
         for (number, times) in self.numbers.iter().enumerate() {
-            tell_number(rt, name, number, *times)?;
+            tell_number(rt, name, number, *times);
         }
-        tell_number(rt, name, 10, self.none)?;
+        tell_number(rt, name, 10, self.none);
         let against = self.against;
-        println!(rt; "{name}, against the form: {against}")
+        let _ = println!(rt; "{name}, against the form: {against}");
     }
 }

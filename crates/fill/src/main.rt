@@ -5,7 +5,6 @@ ghost use Rattle.std.specs.Prelude.{◌≤◌, length};
 
 use link_file::MOST_TEXT;
 use link_form::MAX_BYTES;
-use std::io;
 use std::io::{Read, Write};
 
 // Reads until `bytes` is full, the input ends or a read fails, and says how many bytes it has.
@@ -23,11 +22,12 @@ fn read_full<R: Read>(input: &mut R, bytes: &mut [u8]) -> usize
     full
 }
 
-fn main(rt: HostRuntime) -> io::Result<()> {
+fn main(rt: HostRuntime) {
     // One byte more than the longest file, so that a longer input is seen.
     let mut bytes = [0; MAX_BYTES + 1];
     let mut text = [0; MOST_TEXT];
     let full = read_full(&mut rt.stdin(), &mut bytes);
     let end = link_file::link_file(&bytes[..full], &mut text).unwrap();
-    rt.stdout().write_all(&text[..end])
+    // A write that fails is passed over.
+    let _ = rt.stdout().write_all(&text[..end]);
 }

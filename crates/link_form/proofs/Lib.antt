@@ -9,3 +9,4 @@ pub mod Loadable
 pub mod Examples
 pub mod SameKind
 pub mod Behind
+pub mod Standing

@@ -11,6 +11,10 @@ number_of_kind Sparse = sparse_kind
 number_of_kind Lazy = lazy_kind
 number_of_kind Peel = peel_kind
 
+-- the kind of that number, and sparse elimination where there is none
+abbrev pub StandsFor : ℕ → Kind → Type 0
+StandsFor number kind = (number_of_kind kind ≡ number) ⊎ ((kind ≡ Sparse) × ((number < sparse_kind) ⊎ (peel_kind < number)))
+
 -- the kind of that number, or 9 where there is none
 abbrev pub NamesKind : ℕ → Result Kind Refusal → Type 0
 NamesKind number r =

@@ -5,7 +5,7 @@ use Rattle.gf2.specs.Equation.{Equation}
 use Rattle.link_form.specs.declared.kind.Kind.{Kind}
 use Rattle.link_form.specs.declared.rows.Rows.{Rows}
 use Rattle.link_form.specs.File.{header_bytes, width, count_bytes, count, row_bytes, row, read_rows}
-use Rattle.link_form.specs.Kinds.{number_of_kind}
+use Rattle.link_form.specs.Kinds.{number_of_kind, StandsFor}
 
 -- the bytes that say how many variables the next row lists
 abbrev pub count_bytes_of : Rows → ℕ
@@ -32,6 +32,12 @@ pub record AreBehindHeader (bytes : List ℕ) (kind : Kind) (rows : Rows) : Type
   pub rest : rows.rest.now ≡ drop header_bytes bytes
   pub kind_is : rows.kind ≡ kind
   pub width_is : rows.width ≡ width
+
+-- the rows from `at` on, by the number of their kind
+pub record StartAt (bytes : List ℕ) (at kind w : ℕ) (rows : Rows) : Type 0 where
+  pub rest : rows.rest.now ≡ drop at bytes
+  pub kind_stands : StandsFor kind rows.kind
+  pub width_is : rows.width ≡ w
 
 -- the next k bytes have been read
 pub record Passed (k : ℕ) (old new : Rows) : Type 0 where

@@ -12,6 +12,20 @@ pub enum Kind {
     Peel,
 }
 
+impl Kind {
+    ghost use Rattle.link_form.specs.Kinds.{StandsFor};
+
+    // The kind of a number; one that is no kind is read and solved as sparse elimination is.
+    pub fn standing_for(number: u64) -> Kind
+        ensures { StandsFor number result }
+    {
+        match Kind::try_from(number) {
+            Ok(kind) => kind,
+            Err(_) => Kind::Sparse,
+        }
+    }
+}
+
 impl TryFrom<u64> for Kind {
     type Error = Refusal;
 

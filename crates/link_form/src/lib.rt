@@ -13,4 +13,4 @@ pub use kind::Kind;
 pub use lent::{
     LENT_BYTES, LENT_NUMBERS, LENT_WORDS, MOST_LISTED, MOST_ROWS, MOST_VARIABLES, ServedFile,
 };
-pub use rows::Rows;
+pub use rows::{HEADER_BYTES, Rows, WIDTH, count_at, count_bytes};

@@ -1,5 +1,7 @@
 // The rows of a file, read one after the other.
-ghost use Rattle.std.specs.Prelude.{◌≤◌};
+ghost use Rattle.std.specs.Prelude.{◌≡◌, ◌+◌, ◌≤◌, ◌<◌, length, drop};
+ghost use Rattle.link_form.specs.Bytes.{power};
+ghost use Rattle.link_form.specs.File.{count_bytes, count};
 
 use crate::bytes::read_number;
 use crate::kind::Kind;
@@ -8,6 +10,25 @@ use crate::kind::Kind;
 pub const WIDTH: usize = 2;
 
 pub const HEADER_BYTES: usize = 10;
+
+// The bytes that say how many variables a row lists, by the number of its kind.
+pub fn count_bytes(kind: u64, w: usize) -> usize
+    ensures { result ≡ count_bytes kind w }
+{
+    match Kind::standing_for(kind) {
+        Kind::Sparse | Kind::Lazy => w,
+        Kind::Peel => 0,
+    }
+}
+
+// How many variables the row at `at` lists, by the number of its kind.
+pub fn count_at(bytes: &[u8], at: usize, kind: u64, w: usize) -> usize
+    requires { (at + count_bytes kind w ≤ length bytes.now) × (w ≤ 4) }
+    ensures value { result ≡ count kind w (drop at bytes.now) }
+    ensures upper_bound { result < power 4 }
+{
+    Rows::starting_at(bytes, at, kind, w).count()
+}
 
 // Bytes of rows that are still to be read, in numbers of `width` bytes.
 #[derive(Clone, Copy)]
@@ -19,11 +40,11 @@ pub struct Rows<'a> {
 }
 
 impl<'a> Rows<'a> {
-    ghost use Rattle.std.specs.Prelude.{◌≡◌, ◌<◌, length, take};
-    ghost use Rattle.link_form.specs.Bytes.{little, power};
+    ghost use Rattle.std.specs.Prelude.{take};
+    ghost use Rattle.link_form.specs.Bytes.{little};
     ghost use Rattle.link_form.specs.File.{header_bytes, max_bytes, scan_of};
     ghost use Rattle.link_form.specs.Forms.{scan_told};
-    ghost use Rattle.link_form.specs.Rows.{count_bytes_of, count_of, rows_of, AreBehindHeader, Passed, PassesRow};
+    ghost use Rattle.link_form.specs.Rows.{count_bytes_of, count_of, rows_of, AreBehindHeader, StartAt, Passed, PassesRow};
 
     // The rows of a file, behind its header.
     pub fn of_file(bytes: &'a [u8], kind: Kind) -> Rows<'a>
@@ -35,6 +56,18 @@ impl<'a> Rows<'a> {
             rest,
             kind,
             width: WIDTH,
+        }
+    }
+
+    // The rows from `at` on, by the number of their kind.
+    pub fn starting_at(bytes: &'a [u8], at: usize, kind: u64, w: usize) -> Rows<'a>
+        requires { (at ≤ length bytes.now) × (w ≤ 4) }
+        ensures { StartAt bytes.now at kind w result }
+    {
+        Rows {
+            rest: &bytes[at..],
+            kind: Kind::standing_for(kind),
+            width: w,
         }
     }
 

@@ -1,5 +1,5 @@
 // The lines that tell what a call comes to.
-ghost use Rattle.std.specs.Prelude.{◌+◌, ◌*◌, ◌≤◌, length};
+ghost use Rattle.std.specs.Prelude.{◌≡◌, ◌+◌, ◌*◌, ◌≤◌, length, eqb};
 ghost use Rattle.answers.specs.Answers.{answer_by};
 ghost use Rattle.link_lines.specs.Lines.{most_ended, most_answer};
 ghost use Rattle.link_lines.specs.Outcomes.{outcome, refusal_text, outcome_text};
@@ -7,6 +7,13 @@ ghost use Rattle.link_lines.specs.Text.{Adds};
 
 use crate::text::Text;
 use answers::Numbered;
+
+// Whether values follow an answer of that number.
+fn has_values(number: u32) -> bool
+    ensures { result ≡ eqb number 0 }
+{
+    number == 0
+}
 
 impl<'a> Text<'a> {
     // Adds an answer that no values follow.
@@ -23,7 +30,7 @@ impl<'a> Text<'a> {
         ensures { Adds (outcome_text (outcome (answer_by E.answer answer.now) values.now)) self.old self.new }
     {
         self.refusal(answer);
-        if answers::number(answer) == 0 {
+        if has_values(answers::number(answer)) {
             self.values(values);
         }
     }

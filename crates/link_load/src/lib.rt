@@ -1,11 +1,11 @@
 // The rows of a file, laid out as a lent sparse system.
 #![tactic(auto)]
 
-ghost use Rattle.std.specs.Prelude.{◌≡◌, ◌+◌, ◌*◌, ◌≤◌, length};
+ghost use Rattle.std.specs.Prelude.{◌≡◌, ◌+◌, ◌*◌, ◌≤◌, length, drop};
 ghost use Rattle.std.proofs.Math.Option.{some};
 ghost use Rattle.areas.specs.Stretch.{put};
 ghost use Rattle.system.specs.Fits.{listed_in};
-ghost use Rattle.link_form.specs.File.{max_bytes, rows_in};
+ghost use Rattle.link_form.specs.File.{max_bytes, rows_in, read_rows, rows_at};
 ghost use Rattle.link_form.specs.Rows.{count_bytes_of, count_of, row_bytes_of, row_of, rows_of, Passed};
 ghost use Rattle.link_load.specs.Loading.{starts_of, vars_of, constants_of};
 
@@ -52,4 +52,28 @@ pub fn load_rows(
         starts[i + 1] = listed as u32;
     }
     listed
+}
+
+// The same of the `m` rows from `at` on, in numbers of `w` bytes, by the number of their kind.
+pub fn load_rows_at(
+    bytes: &[u8],
+    at: usize,
+    kind: u64,
+    w: usize,
+    m: usize,
+    starts: &mut [u32],
+    vars: &mut [u32],
+    constants: &mut [u64],
+) -> usize
+    requires whole { read_rows kind w m (drop at bytes.now) ≡ some (rows_at kind w m at bytes.now) }
+    requires inside { (at ≤ length bytes.now) × (length bytes.now ≤ max_bytes) × (w ≤ 4) }
+    requires starts_room { m + 1 ≤ length starts.old }
+    requires rows_room { (listed_in (rows_at kind w m at bytes.now) ≤ length vars.old) × (m ≤ length constants.old) }
+    ensures value { result ≡ listed_in (rows_at kind w m at bytes.now) }
+    ensures starts_after { starts.new ≡ put 0 (starts_of (rows_at kind w m at bytes.now)) starts.old }
+    ensures vars_after { vars.new ≡ put 0 (vars_of (rows_at kind w m at bytes.now)) vars.old }
+    ensures constants_after { constants.new ≡ put 0 (constants_of (rows_at kind w m at bytes.now)) constants.old }
+{
+    let rows = Rows::starting_at(bytes, at, kind, w);
+    load_rows(&rows, m, starts, vars, constants)
 }

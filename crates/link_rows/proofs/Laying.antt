@@ -14,8 +14,9 @@ use Rattle.lazy_calls.specs.LazyCall.{lazy_call}
 use Rattle.link_form.specs.contracts.kind.Kind.{the_type}
 use Rattle.link_form.specs.declared.kind.Kind.{Kind}
 use Rattle.link_form.specs.declared.kind.Kind.TheVariants.{Lazy}
-use Rattle.link_form.specs.Kinds.{number_of_kind}
+use Rattle.link_form.specs.Kinds.{number_of_kind, StandsFor}
 use Rattle.link_form.proofs.SameKind.{same_kind}
+use Rattle.link_form.proofs.Standing.{lazily_alike}
 use Rattle.link_load.specs.Loading.{starts_of, vars_of, constants_of}
 use Rattle.link_load.proofs.LaidRows.{length_starts, length_vars, length_constants}
 use Rattle.link_rows.specs.RowsCall.{solver_of, laid_call, rows_call}
@@ -30,6 +31,12 @@ lazy_solver kind e = rw (← (same_kind kind Lazy), ← e)
 pub sparse_solver : (kind : Kind) → false ≡ sameb the_type kind Lazy → solver_of (number_of_kind kind) ≡ sparse_call
 unfolding solver_of
 sparse_solver kind e = rw (← (same_kind kind Lazy), ← e)
+
+-- by a number, or by the kind that stands for it
+pub rows_call_alike : {number : ℕ} {kind : Kind} → StandsFor number kind → (n : ℕ) (rows : List Equation) (solution : List ℕ)
+    → rows_call (number_of_kind kind) n rows solution ≡ rows_call number n rows solution
+unfolding solver_of
+rows_call_alike s n rows solution = rw (lazily_alike s)
 
 -- ---- the arrays
 

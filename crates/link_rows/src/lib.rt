@@ -4,7 +4,8 @@
 ghost use Rattle.std.specs.Prelude.{◌≡◌};
 ghost use Rattle.answers.specs.Answers.{answer_of};
 ghost use Rattle.link_form.specs.Kinds.{number_of_kind};
-ghost use Rattle.link_rows.specs.RowsCall.{solver_on, laid_call_on, file_call};
+ghost use Rattle.link_form.specs.Lent.{Served, file_rows};
+ghost use Rattle.link_rows.specs.RowsCall.{solver_on, laid_call_on, rows_call, file_call};
 
 use answers::Refusal;
 use link_form::{Form, Kind, LENT_NUMBERS, LENT_WORDS, MOST_LISTED, MOST_ROWS, ServedFile};
@@ -57,4 +58,25 @@ pub fn solve_rows(file: &ServedFile, solution: &mut [u64]) -> Result<(), Refusal
         constants: &constants[..m],
     };
     solve_laid(kind, &system, solution)
+}
+
+// The same of a file that is served by the number of its kind.
+pub fn solve_rows_of(
+    bytes: &[u8],
+    kind: u64,
+    n: usize,
+    m: usize,
+    t: usize,
+    solution: &mut [u64],
+) -> Result<(), Refusal>
+    requires { Served kind n m bytes.now }
+    ensures value { answer_of result ≡ (rows_call kind n (file_rows kind m bytes.now) solution.old).answer }
+    ensures solution_after { solution.new ≡ (rows_call kind n (file_rows kind m bytes.now) solution.old).solution }
+{
+    let kind = Kind::standing_for(kind);
+    let file = ServedFile {
+        bytes,
+        form: Form { kind, n, m, t },
+    };
+    solve_rows(&file, solution)
 }

@@ -1,4 +1,5 @@
 use Rattle.std.proofs.Common.{sym, ◌∙◌, arith}
+use borrow.Author.Tests.{eqb-true, eqb-false}
 use Rattle.answers.specs.Answers.{answer_by}
 use Rattle.answers.specs.Numbers.{number_of, place_of}
 use Rattle.link_lines.proofs.Lining.{adds_more, answer_short, solved_text, refused_text}
@@ -11,12 +12,14 @@ values-requires g c =
     let r = c.refusal.ensures in
     omega (arith, c.requires, r.end, r.long)
 
-pub returns-then-number-eq0 : goal.returns-then-number-eq0
-returns-then-number-eq0 g c =
+pub returns-then-has_values : goal.returns-then-has_values
+returns-then-has_values g c =
     let a = answer_by g.E.Numbered.answer c.args.answer.now in
-    rw (← (solved_text a c.args.values.now (sym c.number.ensures ∙ c.if-number-eq0.true))) (adds_more c.refusal.ensures c.values.ensures)
+    let z = eqb-true c.number.result 0 (sym c.has_values.ensures ∙ c.if-has_values.true) in
+    rw (← (solved_text a c.args.values.now (sym c.number.ensures ∙ z))) (adds_more c.refusal.ensures c.values.ensures)
 
-pub returns-else-number-eq0 : goal.returns-else-number-eq0
-returns-else-number-eq0 g c =
+pub returns-else-has_values : goal.returns-else-has_values
+returns-else-has_values g c =
     let a = answer_by g.E.Numbered.answer c.args.answer.now in
-    rw (← (refused_text a c.args.values.now (λ e. c.if-number-eq0.false (c.number.ensures ∙ e)))) c.refusal.ensures
+    let f = eqb-false c.number.result 0 (sym c.has_values.ensures ∙ c.if-has_values.false) in
+    rw (← (refused_text a c.args.values.now (λ e. f (c.number.ensures ∙ e)))) c.refusal.ensures
