@@ -16,9 +16,9 @@ struct Room {
 
 // What a solver came to on memory of its own.
 #[derive(Clone, Copy)]
-struct Outcome {
-    answer: Result<(), Refusal>,
-    x: [u64; 130],
+pub struct Outcome {
+    pub answer: Result<(), Refusal>,
+    pub x: [u64; 130],
 }
 
 // The cells of a room that an answer leaves zero: a refusal before the run leaves them as lent.

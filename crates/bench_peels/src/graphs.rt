@@ -21,9 +21,9 @@ struct Room {
 
 // What a peeler came to on memory of its own.
 #[derive(Clone, Copy)]
-struct Outcome {
-    end: Result<(), Unpeeled>,
-    x: [u64; 300],
+pub struct Outcome {
+    pub end: Result<(), Unpeeled>,
+    pub x: [u64; 300],
 }
 
 // Every bib is found in the table's cells.

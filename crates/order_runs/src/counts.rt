@@ -1,6 +1,5 @@
-// What was seen beside the comparisons, and the lines that tell all of it.
+// What was seen beside the comparisons, and the lines that tell all of it; a line that cannot be written is passed over.
 use bench_checks::tally::{Caller, Tally};
-use std::io;
 
 #[derive(Drop, Default)]
 pub struct Seen {
@@ -21,36 +20,35 @@ pub fn count_if(count: &mut u64, yes: bool) {
 }
 
 // How often a caller found a system to be solvable, and how often not.
-fn caller_lines(rt: &impl Print, tally: &Tally, caller: Caller, name: &str) -> io::Result<()> {
+fn caller_lines(rt: &impl Print, tally: &Tally, caller: Caller, name: &str) {
     for number in [0, 6] {
         let times = tally.times(caller, number);
-        println!(rt; "{name} {number}: {times}")?;
+        let _ = println!(rt; "{name} {number}: {times}");
     }
-    Ok(())
 }
 
-fn tally_lines(rt: &impl Print, tally: &Tally) -> io::Result<()> {
-    caller_lines(rt, tally, Caller::Sparse, "sparse")?;
-    caller_lines(rt, tally, Caller::Dense, "dense")?;
-    caller_lines(rt, tally, Caller::Slow, "slow")?;
+fn tally_lines(rt: &impl Print, tally: &Tally) {
+    caller_lines(rt, tally, Caller::Sparse, "sparse");
+    caller_lines(rt, tally, Caller::Dense, "dense");
+    caller_lines(rt, tally, Caller::Slow, "slow");
     let compared = tally.compared();
     let different = tally.different();
-    println!(rt; "comparisons: {compared}")?;
-    println!(rt; "disagreements: {different}")
+    let _ = println!(rt; "comparisons: {compared}");
+    let _ = println!(rt; "disagreements: {different}");
 }
 
-fn seen_lines(rt: &impl Print, seen: &Seen) -> io::Result<()> {
-    println!(rt; "lists in which an equation has moved: {}", seen.moved)?;
-    println!(rt; "systems with another lazy table: {}", seen.lazy_apart)?;
-    println!(rt; "orders that change the lazy table: {}", seen.lazy_ordered)?;
-    println!(rt;
+fn seen_lines(rt: &impl Print, seen: &Seen) {
+    let _ = println!(rt; "lists in which an equation has moved: {}", seen.moved);
+    let _ = println!(rt; "systems with another lazy table: {}", seen.lazy_apart);
+    let _ = println!(rt; "orders that change the lazy table: {}", seen.lazy_ordered);
+    let _ = println!(rt;
         "lists with an equation twice that change it: {}",
         seen.lazy_twice
-    )
+    );
 }
 
-pub fn lines(rt: &impl Print, tally: &Tally, seen: &Seen) -> io::Result<()> {
-    println!(rt; "systems: {}", seen.drawn)?;
-    tally_lines(rt, tally)?;
-    seen_lines(rt, seen)
+pub fn lines(rt: &impl Print, tally: &Tally, seen: &Seen) {
+    let _ = println!(rt; "systems: {}", seen.drawn);
+    tally_lines(rt, tally);
+    seen_lines(rt, seen);
 }

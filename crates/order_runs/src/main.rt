@@ -9,8 +9,8 @@ mod solving;
 
 use runs::Runs;
 
-fn main(rt: HostRuntime) -> std::io::Result<()> {
+fn main(rt: HostRuntime) {
     let mut runs = Runs::new(88172645463325252);
     runs.systems();
-    counts::lines(&rt, &runs.tally, &runs.seen)
+    counts::lines(&rt, &runs.tally, &runs.seen);
 }

@@ -127,7 +127,7 @@ fn refused(refusal: Refusal) -> Said
     Said {
         number: u64::from(refusal.number()),
         place: refusal.place() as u64,
-        panicked: false,
+        panicked: 0,
     }
 }
 

@@ -9,8 +9,8 @@ use answers::Numbered;
 pub struct Said {
     pub number: u64,
     pub place: u64,
-    // Whether the Rust panicked.
-    pub panicked: bool,
+    // 1 where the Rust panicked; no other number of a file says so.
+    pub panicked: u64,
 }
 
 // What came of a case.
@@ -33,13 +33,13 @@ pub fn said_of(list: &[u64]) -> Said
         [number, place, panicked, ..] => Said {
             number: *number,
             place: *place,
-            panicked: *panicked == 1,
+            panicked: *panicked,
         },
         // the definition's number that no call answers, so that such a case differs
         _ => Said {
             number: u64::MAX,
             place: 0,
-            panicked: false,
+            panicked: 0,
         },
     }
 }
@@ -58,7 +58,7 @@ pub fn came_of(agreed: bool, said: Said) -> Verdict
     if !agreed {
         return Verdict::Different;
     }
-    if said.panicked {
+    if said.panicked == 1 {
         return Verdict::Refused;
     }
     if refuses(said.number) {

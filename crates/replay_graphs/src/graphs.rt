@@ -54,7 +54,7 @@ fn graph_call(graph: &mut XorGraph, edges: &mut [u32], degrees: &mut [u8], call:
         Op::Zero => told(&XorGraph::zero(edges, degrees, v)),
         Op::Degree => degree(edges, degrees, v),
         Op::EdgeAndSide => edge_and_side(edges, degrees, v),
-        Op::Overflow => valued::<()>(&Ok(()), u32::from(graph.overflow), 0),
+        Op::Overflow => valued::<(), Refusal>(&Ok(()), u32::from(graph.overflow), 0),
     }
 }
 

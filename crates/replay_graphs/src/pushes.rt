@@ -19,7 +19,7 @@ pub enum Stack {
 const CELLS: usize = 16;
 
 fn length(count: usize) -> Reply {
-    valued::<()>(&Ok(()), count.min(CELLS) as u32, 0)
+    valued::<(), Refusal>(&Ok(()), count.min(CELLS) as u32, 0)
 }
 
 // Push, pop, length, by the file's numbers: they stand here and below alone, and an enum would only name each call once more.

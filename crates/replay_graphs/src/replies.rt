@@ -1,10 +1,9 @@
 // What a call on a graph or a stack replies.
 ghost use Rattle.std.specs.Prelude.{◌≡◌};
-ghost use Rattle.answers.specs.Answers.{answer_of};
-ghost use Rattle.stack_steps.specs.Stacks.{popped_of};
-ghost use Rattle.replay_graphs.specs.Replies.{valued_reply, popped_reply, is_reply};
+ghost use Rattle.answers.specs.Answers.{answer_by};
+ghost use Rattle.replay_graphs.specs.Replies.{valued_reply, popped_by, popped_reply, is_reply};
 
-use answers::Refusal;
+use answers::Numbered;
 use peeling::numbers::Vertex;
 
 #[derive(Clone, Copy, PartialEq, Debug)]
@@ -17,14 +16,14 @@ pub struct Reply {
 // The file's number for a pop that finds nothing.
 pub const EMPTY: u32 = 11;
 
-pub fn told<T>(answer: &Result<T, Refusal>) -> Reply
-    ensures { result ≡ valued_reply (answer_of answer.now) 0 0 }
+pub fn told<T, E: Numbered>(answer: &Result<T, E>) -> Reply
+    ensures { result ≡ valued_reply (answer_by E.answer answer.now) 0 0 }
 {
     valued(answer, 0, 0)
 }
 
-pub fn valued<T>(answer: &Result<T, Refusal>, value: u32, side: u32) -> Reply
-    ensures { result ≡ valued_reply (answer_of answer.now) value side }
+pub fn valued<T, E: Numbered>(answer: &Result<T, E>, value: u32, side: u32) -> Reply
+    ensures { result ≡ valued_reply (answer_by E.answer answer.now) value side }
 {
     Reply {
         number: answers::number(answer),
@@ -33,8 +32,8 @@ pub fn valued<T>(answer: &Result<T, Refusal>, value: u32, side: u32) -> Reply
     }
 }
 
-pub fn popped(got: &Result<Option<Vertex>, Refusal>) -> Reply
-    ensures { result ≡ popped_reply (popped_of got.now) }
+pub fn popped<E: Numbered>(got: &Result<Option<Vertex>, E>) -> Reply
+    ensures { result ≡ popped_reply (popped_by E.answer got.now) }
 {
     match got {
         Ok(Some(v)) => valued(got, v.0, 0),

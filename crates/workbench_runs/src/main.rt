@@ -8,12 +8,12 @@ mod sums;
 use bench_checks::tally::Tally;
 use bench_draws::random::Random;
 
-fn main(rt: HostRuntime) -> std::io::Result<()> {
-    sums::dense_sums(&rt)?;
-    sums::crowds(&rt)?;
+fn main(rt: HostRuntime) {
+    sums::dense_sums(&rt);
+    sums::crowds(&rt);
     let mut tally = Tally::new();
     let mut random = Random::new(88172645463325252);
     runs::systems(&mut tally, &mut random);
     runs::graphs(&mut tally, &mut random);
-    print::counts(&rt, &tally)
+    print::counts(&rt, &tally);
 }
