@@ -42,7 +42,8 @@ pub fn first_list(numbers: &mut [u32], at: Layout) -> usize
 {
     let mut top = 0;
     for i in (0..at.m).rev() {
-        if numbers[at.priority + i] <= 1 {
+        let first = numbers[at.priority + i] <= 1;
+        if first {
             numbers[at.equations + top] = i as u32;
             top += 1;
         }
