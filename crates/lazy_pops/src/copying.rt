@@ -48,7 +48,8 @@ pub fn pop_dense(
             ..stand
         });
     }
-    if words[e as usize] != 0 {
+    let clash = words[e as usize] != 0;
+    if clash {
         return Err(Unsolvable);
     }
     Ok(stand)

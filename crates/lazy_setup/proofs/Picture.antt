@@ -11,9 +11,11 @@ use Rattle.gf2.specs.NumberLists.{up_from, down_from, keep, count}
 use Rattle.gf2.specs.ByNumber.{row_of, blank}
 use Rattle.gf2.proofs.Selecting.{length-keep, length_up}
 use Rattle.areas.specs.Rows.{padded, laid}
+use Rattle.areas.specs.Stretch.{stretch}
+use Rattle.areas.specs.Segments.{joined}
 use Rattle.areas.proofs.Rows.{padded-nil}
 use Rattle.areas.proofs.Stretch.{length-stretch}
-use Rattle.system.specs.System.{equation_at, equations}
+use Rattle.system.specs.System.{equation_at, equations_from, equations}
 use Rattle.system.specs.Fits.{Fits}
 use Rattle.system.proofs.Reading.{equations_at}
 use Rattle.lazy.specs.Lazy.{listing, heaviest, start}
@@ -21,7 +23,24 @@ use Rattle.lazy_setup.specs.Area.{mark, lengths, rows_of, lists_from, dense_part
 use Rattle.lazy_setup.specs.Tables.{tallies, running, spans, firsts}
 use Rattle.lazy_setup.proofs.Tables.{is_table, same_table}
 use Rattle.lazy_setup.proofs.Sorting.{reverse-keep}
-use Rattle.lazy_setup.proofs.Holding.{begins_are, weights_are, weight_counts}
+use Rattle.lazy_setup.proofs.Holding.{owners, shelves, filled_lists, begins_are, weights_are, weight_counts}
+
+-- ---- the constants do not matter
+
+pub rows_any : (k i : ℕ) (starts vars c d : List ℕ) → map (λ r. r.vars) (equations_from k i starts vars c) ≡ map (λ r. r.vars) (equations_from k i starts vars d)
+unfolding equations_from equation_at
+rows_any zero i starts vars c d = refl
+rows_any (suc k) i starts vars c d = ap (λ (l : List (List ℕ)). stretch (get_or starts i 0) (get_or starts (i + 1) 0 - get_or starts i 0) vars ∷ l) (rows_any k (i + 1) starts vars c d)
+
+owners_any : (k i e : ℕ) (starts vars c d : List ℕ) → owners e (equations_from k i starts vars c) ≡ owners e (equations_from k i starts vars d)
+unfolding equations_from equation_at owners
+owners_any zero i e starts vars c d = refl
+owners_any (suc k) i e starts vars c d =
+    ap (λ (l : List ℕ). replicate (length (stretch (get_or starts i 0) (get_or starts (i + 1) 0 - get_or starts i 0) vars)) e ++ l) (owners_any k (i + 1) (suc e) starts vars c d)
+
+pub lists_any : {n m : ℕ} {starts vars c d : List ℕ} → Fits n m starts vars c → Fits n m starts vars d → lists_from (equations m starts vars c) 0 n ≡ lists_from (equations m starts vars d) 0 n
+lists_any {n} {m} {starts} {vars} {c} {d} f g =
+    sym (filled_lists f) ∙ ap (λ (os : List ℕ). joined (shelves vars os n (length vars))) (owners_any m 0 0 starts vars c d) ∙ filled_lists g
 
 map_marks : (n : ℕ) → map mark (replicate n true) ≡ replicate n 1
 map_marks zero = refl

@@ -19,6 +19,7 @@ use Rattle.areas.proofs.Stretch.{cleared_is_put, put-append_left}
 use Rattle.system.specs.System.{equation_at, equations}
 use Rattle.system.specs.Fits.{Fits}
 use Rattle.system.proofs.Reading.{equations_at}
+use Rattle.system.proofs.Soundness.{fits_from}
 use Rattle.lazy.specs.Lazy.{listing, heaviest, start}
 use Rattle.lazy.proofs.AtStart.{start_variables}
 use Rattle.lazy_setup.specs.declared.Stand.{Stand}
@@ -29,6 +30,13 @@ use Rattle.lazy_setup.proofs.Tables.{is_table, length_table}
 use Rattle.lazy_setup.proofs.Showing.{zeros_left}
 use Rattle.lazy_setup.proofs.Picture.{variables_are}
 use Rattle.lazy_setup.proofs.Steps.{length_sorted}
+
+-- the rules of the constants ask for their number alone
+pub fits_plain : {n m : ℕ} {starts vars constants : List ℕ} → Fits n m starts vars constants → Fits n m starts vars (replicate m 0)
+unfolding equation_at
+fits_plain {n} {m} {starts} {vars} {constants} f =
+    fits_from n m starts vars (replicate m 0) f.few_variables f.few_equations f.few_listed
+    (record { long = f.starts_long; first = f.first; last = f.last; climbing = f.climbing }) (length-replicate m 0) f.rising
 
 module _ {n m : ℕ} {starts vars constants : List ℕ} (f : Fits n m starts vars constants) where
   constants_are : map (λ r. r.c) (equations m starts vars constants) ≡ constants

@@ -6,8 +6,10 @@ mod load;
 mod sort;
 mod tally;
 
-ghost use Rattle.std.specs.Prelude.{◌≡◌, ◌++◌, ◌≤◌, length, drop};
+ghost use Rattle.std.specs.Prelude.{◌≡◌, List, ◌++◌, ℕ, ◌≤◌, length, drop, replicate};
 ghost use Rattle.answers.specs.Sizes.{max_variables, max_equations, max_listed, lazy_numbers, lazy_words};
+ghost use Rattle.system.specs.System.{equations};
+ghost use Rattle.system.specs.Fits.{Fits};
 ghost use Rattle.system.specs.Lent.{equations_in, FitsIn};
 ghost use Rattle.lazy.specs.Lazy.{start};
 ghost use Rattle.lazy_setup.specs.Area.{numbers_of, words_of};
@@ -86,12 +88,16 @@ impl Layout {
     }
 }
 
-// The numbers of the start, from a system that keeps its rules. How many equations stand on the first list.
+// The numbers of the start, from a system that keeps its rules; the constants are not read. How many equations stand on the
+// first list.
 fn setup_numbers(system: &System, numbers: &mut [u32]) -> usize
-    requires { FitsIn system.now × (lazy_numbers system.now.n system.now.m (length system.now.vars.now) ≤ length numbers.old) }
-    ensures value { let es = equations_in system.now in result ≡ length (start system.now.n es).equations }
-    ensures numbers_after { let n = system.now.n in let es = equations_in system.now in
-        numbers.new ≡ numbers_of n es (start n es) ++ drop (lazy_numbers n system.now.m (length system.now.vars.now)) numbers.old }
+    requires { let s = system.now in Fits s.n s.m s.starts.now s.vars.now (replicate s.m 0)
+        × (lazy_numbers s.n s.m (length s.vars.now) ≤ length numbers.old) }
+    ensures value { let s = system.now in (constants : List ℕ) → Fits s.n s.m s.starts.now s.vars.now constants
+        → let es = equations s.m s.starts.now s.vars.now constants in result ≡ length (start s.n es).equations }
+    ensures numbers_after { let s = system.now in (constants : List ℕ) → Fits s.n s.m s.starts.now s.vars.now constants
+        → let es = equations s.m s.starts.now s.vars.now constants in
+        numbers.new ≡ numbers_of s.n es (start s.n es) ++ drop (lazy_numbers s.n s.m (length s.vars.now)) numbers.old }
 {
     let t = system.vars.len();
     areas::fill(numbers, 0, answers::lazy_numbers(system.n, system.m, t), 0);

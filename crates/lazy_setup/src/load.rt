@@ -1,19 +1,22 @@
 // The lent system in the work area: rows, lengths, marks and the first list.
-ghost use Rattle.std.specs.Prelude.{◌≡◌, ◌+◌, ◌*◌, ◌≤◌, length, replicate};
+ghost use Rattle.std.specs.Prelude.{◌≡◌, List, ℕ, ◌+◌, ◌*◌, ◌<◌, ◌≤◌, length, get_or, replicate};
 ghost use Rattle.answers.specs.Sizes.{max_equations};
 ghost use Rattle.areas.specs.Stretch.{stretch, put};
-ghost use Rattle.system.specs.Lent.{equations_in, FitsIn};
+ghost use Rattle.system.specs.System.{equations};
+ghost use Rattle.system.specs.Fits.{Fits};
 ghost use Rattle.lazy_setup.specs.Area.{rows_of};
 ghost use Rattle.lazy_setup.specs.Tables.{spans, firsts};
 
 use crate::Layout;
 use system::System;
 
-// Copies the variables of each equation into its row of n numbers; the rows begin at 0 and hold zeros.
+// Copies the variables of each equation into its row of n numbers; the rows begin at 0 and hold zeros. The constants are not
+// read.
 fn load_rows(system: &System, numbers: &mut [u32])
-    requires { let room = system.now.m * system.now.n in
-        FitsIn system.now × (room ≤ length numbers.old) × (stretch 0 room numbers.old ≡ replicate room 0) }
-    ensures { numbers.new ≡ put 0 (rows_of system.now.n (equations_in system.now)) numbers.old }
+    requires { let s = system.now in let room = s.m * s.n in Fits s.n s.m s.starts.now s.vars.now (replicate s.m 0)
+        × (room ≤ length numbers.old) × (stretch 0 room numbers.old ≡ replicate room 0) }
+    ensures { let s = system.now in (constants : List ℕ)
+        → numbers.new ≡ put 0 (rows_of s.n (equations s.m s.starts.now s.vars.now constants)) numbers.old }
 {
     for i in 0..system.m {
         areas::copy(system.variables(i), numbers, i * system.n);
@@ -22,7 +25,8 @@ fn load_rows(system: &System, numbers: &mut [u32])
 
 // Writes the length of each equation from `at` on.
 fn write_lengths(system: &System, numbers: &mut [u32], at: usize)
-    requires { FitsIn system.now × (at + system.now.m ≤ length numbers.old) }
+    requires { let s = system.now in (s.m ≤ max_equations) × (length s.starts.now ≡ s.m + 1)
+        × ((i : ℕ) → i < s.m → get_or s.starts.now i 0 ≤ get_or s.starts.now (i + 1) 0) × (at + s.m ≤ length numbers.old) }
     ensures { numbers.new ≡ put at (spans system.now.m system.now.starts.now) numbers.old }
 {
     for i in 0..system.m {
@@ -38,7 +42,8 @@ pub fn first_list(numbers: &mut [u32], at: Layout) -> usize
 {
     let mut top = 0;
     for i in (0..at.m).rev() {
-        if numbers[at.priority + i] <= 1 {
+        let first = numbers[at.priority + i] <= 1;
+        if first {
             numbers[at.equations + top] = i as u32;
             top += 1;
         }
@@ -46,14 +51,14 @@ pub fn first_list(numbers: &mut [u32], at: Layout) -> usize
     top
 }
 
-// The rows, their lengths, the priorities and the marks of the idle variables.
+// The rows, their lengths, the priorities and the marks of the idle variables. The constants are not read.
 pub fn load(system: &System, numbers: &mut [u32], at: Layout)
-    requires fits { FitsIn system.now × (system.now.m * system.now.n ≤ length numbers.old)
-        × (at.lengths + system.now.m ≤ length numbers.old)
-        × (at.idle + system.now.n ≤ length numbers.old) × (at.priority + system.now.m ≤ length numbers.old) }
+    requires fits { let s = system.now in Fits s.n s.m s.starts.now s.vars.now (replicate s.m 0)
+        × (s.m * s.n ≤ length numbers.old) × (at.lengths + s.m ≤ length numbers.old)
+        × (at.idle + s.n ≤ length numbers.old) × (at.priority + s.m ≤ length numbers.old) }
     requires numbers_value { stretch 0 (system.now.m * system.now.n) numbers.old ≡ replicate (system.now.m * system.now.n) 0 }
     ensures { let lengths = spans system.now.m system.now.starts.now in
-        let rows = rows_of system.now.n (equations_in system.now) in
+        (constants : List ℕ) → let rows = rows_of system.now.n (equations system.now.m system.now.starts.now system.now.vars.now constants) in
         numbers.new ≡ put at.idle (replicate system.now.n 1) (put at.priority lengths (put at.lengths lengths (put 0 rows numbers.old))) }
 {
     load_rows(system, numbers);

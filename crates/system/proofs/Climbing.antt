@@ -6,10 +6,12 @@ use Prim.Native.Nat.{ℕ, zero, suc, ◌+◌, ◌<◌, ◌≤◌, zero-le, suc-l
 use native.Mathlib.Nat.{not-suc-le-zero, le_of_suc-le-suc}
 use native.Mathlib.Numerals.{add-one}
 use native.Mathlib.Omega.{arith}
-use borrow.Author.Tests.{le-leb, leb-true, eq-eqb, eqb-true}
+use borrow.Author.Tests.{le-leb, leb-true, leb-false, eq-eqb, eqb-true}
 use lib.ListN.{length, get_or}
 use lib.Dec.{eqb, leb}
+use Rattle.std.specs.List.{IsAllAdjacentAnswer}
 use Rattle.std.specs.List.Sorted.{IsNonDecreasing}
+use Rattle.std.proofs.lemmas.List.Sorted.{IsNonDecreasingBy-from_all_adjacent}
 use Rattle.system.specs.System.{climbs, starts_kept}
 use Rattle.gf2.proofs.Both.{both}
 
@@ -82,6 +84,14 @@ starts_kept_back m t starts l z f e =
     rw (eq-eqb (length starts) (m + 1) l, eq-eqb (get_or starts 0 0) 0 z) (kept_back m t starts l f e)
 
 -- ---- the tests
+
+-- what is told of each start and the next is whether the second is no less
+pub never_falls : (starts : List ℕ) → IsAllAdjacentAnswer (λ x y b. b ≡ leb x y) starts true → IsNonDecreasing starts
+never_falls starts h = IsNonDecreasingBy-from_all_adjacent (λ x. x) starts (λ k d l. leb-true (get_or starts k d) (get_or starts (k + 1) d) (sym (h k d l)))
+
+pub one_falls : (starts : List ℕ) → IsAllAdjacentAnswer (λ x y b. b ≡ leb x y) starts false
+    → (k : ℕ) × (k + 1 < length starts) × ((d : ℕ) → get_or starts (k + 1) d < get_or starts k d)
+one_falls starts (k, h, f) = (k, h, λ d. leb-false (get_or starts k d) (get_or starts (k + 1) d) (sym (f d)))
 
 pub starts_refused : (m t : ℕ) (starts : List ℕ) → (Starts m t starts → ⊥) → false ≡ starts_kept m t starts
 starts_refused m t starts f = go (starts_kept m t starts) (λ e. f (starts_sound m t starts e))

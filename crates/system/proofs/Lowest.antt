@@ -10,7 +10,7 @@ use Rattle.gf2.specs.Equation.{Equation, Each}
 use Rattle.system.specs.Lent.{Readable}
 use Rattle.system.specs.System.{equation_at, equations_from, equations, starts_kept, in_order, lowest_bad}
 use Rattle.system.proofs.Climbing.{Starts, starts_sound}
-use Rattle.system.proofs.Reading.{from_turn, from_end}
+use Rattle.system.proofs.Reading.{variables_any, from_turn, from_end}
 
 if_good : (b : Bool) (p q : ℕ) → b ≡ true → ◌≡◌ {A = ℕ} (elim b [ true ↦ p | false ↦ q ]) p
 if_good true p q e = refl
@@ -51,17 +51,17 @@ lowest_bad_lem n (e ∷ es) d h = go (in_order n e.vars) refl (lowest_bad_lem n 
     go true q ih = rw (lowest_skip n e es q) (ih (le_of_suc-le-suc (rw (lowest_skip n e es q) at h)))
     go false q ih = rw (lowest_here n e es q) q
 
--- ---- the walk: the equations before i are in order
+-- ---- the walk: the equations before i are in order, whatever the constants are
 
-pub record Passed (n m : ℕ) (starts vars constants : List ℕ) (i : ℕ) : Type 0 where
+pub record Passed (n m : ℕ) (starts vars : List ℕ) (i : ℕ) : Type 0 where
   pub within : i ≤ m
   pub starting : Starts m (length vars) starts
-  pub rest : lowest_bad n (equations m starts vars constants) ≡ i + lowest_bad n (equations_from (m - i) i starts vars constants)
+  pub rest : (constants : List ℕ) → lowest_bad n (equations m starts vars constants) ≡ i + lowest_bad n (equations_from (m - i) i starts vars constants)
 
-pub passed_begin : (n m : ℕ) (starts vars constants : List ℕ) → starts_kept m (length vars) starts ≡ true → Passed n m starts vars constants 0
-passed_begin n m starts vars constants h = record { within = zero-le; starting = starts_sound m (length vars) starts h; rest = rw (sub-zero m, zero-add) }
+pub passed_begin : (n m : ℕ) (starts vars : List ℕ) → starts_kept m (length vars) starts ≡ true → Passed n m starts vars 0
+passed_begin n m starts vars h = record { within = zero-le; starting = starts_sound m (length vars) starts h; rest = λ constants. rw (sub-zero m, zero-add) }
 
-module _ {n m : ℕ} {starts vars constants : List ℕ} {i : ℕ} (p : Passed n m starts vars constants i) where
+module _ {n m : ℕ} {starts vars : List ℕ} {i : ℕ} (p : Passed n m starts vars i) where
   pub passed_read : i < m → Readable starts vars i
   passed_read h =
       let s = p.starting in
@@ -72,25 +72,31 @@ module _ {n m : ℕ} {starts vars constants : List ℕ} {i : ℕ} (p : Passed n 
         within = omega (arith, s.last);
       }
 
-  passed_next : i < m → lowest_bad n (equations m starts vars constants) ≡ i + lowest_bad n (equation_at starts vars constants i ∷ equations_from (m - (i + 1)) (i + 1) starts vars constants)
-  passed_next h = p.rest ∙ rw (from_turn starts vars constants m i h)
+  passed_next : i < m → (constants : List ℕ)
+      → lowest_bad n (equations m starts vars constants) ≡ i + lowest_bad n (equation_at starts vars constants i ∷ equations_from (m - (i + 1)) (i + 1) starts vars constants)
+  passed_next h constants = p.rest constants ∙ rw (from_turn starts vars constants m i h)
 
-  pub passed_turn : i < m → in_order n (equation_at starts vars constants i).vars ≡ true → Passed n m starts vars constants (i + 1)
-  passed_turn h g =
-      let es = equations_from (m - (i + 1)) (i + 1) starts vars constants in
+  -- equation i is read with the constants that were lent, and in order with any
+  order_any : {b : Bool} (lent : List ℕ) → in_order n (equation_at starts vars lent i).vars ≡ b → (constants : List ℕ) → in_order n (equation_at starts vars constants i).vars ≡ b
+  order_any lent g constants = ap (in_order n) (variables_any starts vars constants lent i) ∙ g
+
+  pub passed_turn : i < m → (lent : List ℕ) → in_order n (equation_at starts vars lent i).vars ≡ true → Passed n m starts vars (i + 1)
+  passed_turn h lent g =
       record {
         within = omega arith;
         starting = p.starting;
-        rest = passed_next h ∙ rw (lowest_skip n (equation_at starts vars constants i) es g) (omega arith);
+        rest = λ constants.
+            let es = equations_from (m - (i + 1)) (i + 1) starts vars constants in
+            passed_next h constants ∙ rw (lowest_skip n (equation_at starts vars constants i) es (order_any lent g constants)) (omega arith);
       }
 
-  pub passed_stop : i < m → in_order n (equation_at starts vars constants i).vars ≡ false → i ≡ lowest_bad n (equations m starts vars constants)
-  passed_stop h g =
+  pub passed_stop : i < m → (lent : List ℕ) → in_order n (equation_at starts vars lent i).vars ≡ false → (constants : List ℕ) → i ≡ lowest_bad n (equations m starts vars constants)
+  passed_stop h lent g constants =
       let es = equations_from (m - (i + 1)) (i + 1) starts vars constants in
-      sym (passed_next h ∙ rw (lowest_here n (equation_at starts vars constants i) es g) (add-zero i))
+      sym (passed_next h constants ∙ rw (lowest_here n (equation_at starts vars constants i) es (order_any lent g constants)) (add-zero i))
 
-  pub passed_end : m ≤ i → lowest_bad n (equations m starts vars constants) ≡ m
+  pub passed_end : m ≤ i → (constants : List ℕ) → lowest_bad n (equations m starts vars constants) ≡ m
   unfolding lowest_bad
-  passed_end h =
+  passed_end h constants =
       let e : i ≡ m = omega (arith, p.within) in
-      p.rest ∙ rw (from_end starts vars constants m i h) (omega arith)
+      p.rest constants ∙ rw (from_end starts vars constants m i h) (omega arith)

@@ -8,6 +8,11 @@ use lib.ListN.{length, get_or, take, drop}
 use Rattle.gf2.specs.Equation.{Equation}
 use Rattle.system.specs.System.{equation_at, equations_from, equations}
 
+-- the variables of an equation are the same whatever the constants are
+pub variables_any : (starts vars c d : List ℕ) (i : ℕ) → (equation_at starts vars c i).vars ≡ (equation_at starts vars d i).vars
+unfolding equation_at
+variables_any starts vars c d i = refl
+
 module _ (starts vars constants : List ℕ) where
   -- the first of those that are left, and the others
   pub from_turn : (m i : ℕ) → i < m → equations_from (m - i) i starts vars constants ≡ equation_at starts vars constants i ∷ equations_from (m - (i + 1)) (i + 1) starts vars constants

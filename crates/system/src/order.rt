@@ -1,7 +1,6 @@
 // The order of the variables within an equation.
-ghost use Rattle.std.specs.Prelude.{◌≡◌, ◌<◌, true, length, MatchOption};
-ghost use Rattle.system.specs.System.{starts_kept, in_order, lowest_bad};
-ghost use Rattle.system.specs.Lent.{equations_in};
+ghost use Rattle.std.specs.Prelude.{◌≡◌, ◌<◌, true, List, ℕ, length, MatchOption};
+ghost use Rattle.system.specs.System.{starts_kept, in_order, lowest_bad, equations};
 
 use crate::System;
 
@@ -20,10 +19,10 @@ fn in_order(n: usize, vars: &[u32]) -> bool
     true
 }
 
-// The lowest equation that is not in order.
+// The lowest equation that is not in order; the constants are not read.
 pub fn lowest_bad(system: &System) -> Option<usize>
     requires { starts_kept system.now.m (length system.now.vars.now) system.now.starts.now ≡ true }
-    ensures { let low = lowest_bad system.now.n (equations_in system.now) in
+    ensures { (constants : List ℕ) → let low = lowest_bad system.now.n (equations system.now.m system.now.starts.now system.now.vars.now constants) in
         MatchOption result (low ≡ system.now.m) (λ i. (i < system.now.m) × (i ≡ low)) }
 {
     for i in 0..system.m {

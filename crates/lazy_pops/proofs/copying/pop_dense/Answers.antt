@@ -1,4 +1,6 @@
+-- The test of the constant is found by search.
 use Rattle.std.proofs.Common.{arith}
+use Rattle.std.proofs.lemmas.Bool.Decides.{nat_tests}
 use Rattle.lazy_pops.proofs.DensePop.{copy_at, equation_cells, pop_copied, pop_clash, pop_identity}
 use Rattle.lazy_pops.proofs.copying.pop_dense.Goals as goal
 
@@ -26,8 +28,8 @@ bounds-words-e c = let b = equation_cells c.requires.at in omega arith
 pub returns-then-len-ne0 : goal.returns-then-len-ne0
 returns-then-len-ne0 c = λ sys s es a. pop_copied a c.if-len-ne0.true (c.copy_dense.ensures sys _ (copy_at a))
 
-pub returns-then-words-e-ne0 : goal.returns-then-words-e-ne0
-returns-then-words-e-ne0 c = λ sys s es a. pop_clash a c.if-len-ne0.false c.if-words-e-ne0.true
+pub returns-then-clash : goal.returns-then-clash
+returns-then-clash c = λ sys s es a. pop_clash a c.if-len-ne0.false (λ z. grind (arith, nat_tests, z, c.if-clash.true))
 
 pub returns : goal.returns
-returns c = λ sys s es a. pop_identity a c.if-len-ne0.false c.if-words-e-ne0.false
+returns c = λ sys s es a. pop_identity a c.if-len-ne0.false (grind (arith, nat_tests, c.if-clash.false))

@@ -26,7 +26,7 @@ lowest_bad-requires c =
 pub returns-in-Some : goal.returns-in-Some
 unfolding system_rules
 returns-in-Some c =
-    let e = c.in-Some.ensures in
+    let e = c.in-Some.ensures c.args.self.now.constants.now in
     simp (
       sym c.sizes_fit.ensures ∙ c.if-not-sizes_fit.false,
       sym c.shape_kept.ensures ∙ c.if-not-shape_kept.false,
@@ -40,6 +40,6 @@ returns-in-None c =
     simp (
       sym c.sizes_fit.ensures ∙ c.if-not-sizes_fit.false,
       sym c.shape_kept.ensures ∙ c.if-not-shape_kept.false,
-      c.in-None.ensures,
+      c.in-None.ensures c.args.self.now.constants.now,
       le-ltb c.args.self.now.m c.args.self.now.m (omega arith),
     )
