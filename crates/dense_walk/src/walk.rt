@@ -9,6 +9,7 @@ use dense_rows::{Area, View};
 use dense_steps::take_pivot;
 
 // Columns left to right, until every row has a pivot: the rank. A column that no row has is passed over.
+#[tactic(auto, using(crate::proofs::Walking::walking_done, crate::proofs::Walking::walking_full))]
 pub fn eliminate(n: usize, area: &mut Area, numbers: &mut [u32]) -> usize
     requires { (n ≤ max_variables) × (n ≤ 64 * area.old.w) × (area.old.m ≤ length numbers.old) }
     ensures same { SameArea area.old area.new }
