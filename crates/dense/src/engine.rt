@@ -70,6 +70,6 @@ impl Engine for Dense {
     }
 
     fn read(area: &Area, pivots: &[u32], solution: &mut [u64]) {
-        back_substitution(area, pivots, solution);
+        back_substitution(area.view(), pivots, solution);
     }
 }

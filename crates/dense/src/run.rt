@@ -49,7 +49,7 @@ fn run<E: Engine>(
 {
     load(system, area);
     let rank = E::reduce(system.n, area, numbers);
-    if constant_left(area, rank) {
+    if constant_left(area.view(), rank) {
         clear_room(area, numbers);
         return Err(Refusal::Unsolvable);
     }

@@ -1,16 +1,24 @@
--- Steps on one work area: the rows that it holds, and one step after another.
+-- Steps on one work area: the rows that it holds, how they are seen, and one step after another.
 use mathlib.Core.Path.{◌≡◌, refl, ap, ap₂, ◌∙◌, subst}
 use mathlib.Core.List.{List}
 use Prim.Native.Nat.{ℕ, ◌*◌}
 use lib.ListN.{length, drop}
 use Rattle.dense_rows.specs.Bits.{Row}
 use Rattle.dense_rows.specs.Rows.{held}
-use Rattle.dense_rows.specs.Areas.{rows_in, SameArea, Holds}
+use Rattle.dense_rows.specs.Areas.{rows_in, rows_seen, Views, SameArea, Holds}
 use Rattle.dense_rows.specs.declared.area.Area.{Area}
+use Rattle.dense_rows.specs.declared.view.View.{View}
 use Rattle.dense_rows.proofs.HeldLaws.{rows_length}
 
 pub rows_count : (a : Area) → length (rows_in a) ≡ a.m
 rows_count a = rows_length a.m a.w 0 a.words.now (drop (a.m * a.w) a.words.now)
+
+pub seen_count : (v : View) → length (rows_seen v) ≡ v.m
+seen_count v = rows_length v.m v.w 0 v.words.now (drop (v.m * v.w) v.words.now)
+
+-- what is seen of an area are its rows
+pub seen_rows : {a : Area} {v : View} → Views a v → rows_seen v ≡ rows_in a
+seen_rows {a} {v} s = rw (s.same_m, s.same_w, s.same_words) refl
 
 pub same_area : {a : Area} → SameArea a a
 same_area = record { same_m = refl; same_w = refl; same_reference = refl }

@@ -1,6 +1,8 @@
 // The work area of an elimination.
 ghost use Rattle.std.specs.Prelude.{◌+◌, ◌*◌, ◌≤◌, length};
 
+use crate::view::View;
+
 // A lent area of `m` rows of `w` words, one after the other, and then their constants.
 #[derive(Drop)]
 pub struct Area<'a> {
@@ -14,14 +16,25 @@ impl<'a> Area<'a> {
     ghost use Rattle.std.specs.Prelude.{◌≡◌, ◌<◌, drop, get_or};
     ghost use Rattle.dense_rows.specs.Bits.{has_bit};
     ghost use Rattle.dense_rows.specs.Steps.{no_row, pivot_from};
-    ghost use Rattle.dense_rows.specs.Areas.{rows_in};
+    ghost use Rattle.dense_rows.specs.Areas.{rows_in, Views};
+
+    // The area as it is read: what is lent shared can be read in the same way.
+    pub fn view(&self) -> View
+        ensures { Views self.now result }
+    {
+        View {
+            m: self.m,
+            w: self.w,
+            words: self.words,
+        }
+    }
 
     // The words of row `i`.
     pub fn row(&self, i: usize) -> &[u64]
         requires { i < self.now.m }
         ensures { result.now ≡ (get_or (rows_in self.now) i no_row).words }
     {
-        &self.words[i * self.w..i * self.w + self.w]
+        self.view().row(i)
     }
 
     // The constant of row `i`.
@@ -29,7 +42,7 @@ impl<'a> Area<'a> {
         requires { i < self.now.m }
         ensures { result ≡ (get_or (rows_in self.now) i no_row).c }
     {
-        self.words[self.m * self.w + i]
+        self.view().constant(i)
     }
 
     // Whether row `i` has the column.
@@ -37,7 +50,7 @@ impl<'a> Area<'a> {
         requires { (col < 64 * self.now.w) × (i < self.now.m) }
         ensures { result ≡ has_bit col (get_or (rows_in self.now) i no_row) }
     {
-        self.words[i * self.w + col / 64] & (1 << (col % 64)) != 0
+        self.view().has(col, i)
     }
 
     // The first row from `rank` on that has the column.
@@ -45,6 +58,6 @@ impl<'a> Area<'a> {
         requires { (rank ≤ self.now.m) × (col < 64 * self.now.w) }
         ensures { result ≡ pivot_from col rank (drop rank (rows_in self.now)) }
     {
-        (rank..self.m).find(|i| self.has(col, *i))
+        self.view().find_pivot(col, rank)
     }
 }

@@ -5,6 +5,8 @@ mod area;
 pub mod fits;
 mod system;
 pub mod values;
+mod view;
 
 pub use area::Area;
 pub use system::DenseSystem;
+pub use view::View;

@@ -15,11 +15,11 @@ use Rattle.answers.specs.Sizes.{max_row_words}
 use Rattle.dense_rows.specs.Bits.{Row, Clear, columns_from, columns}
 use Rattle.dense_rows.specs.Steps.{no_row}
 use Rattle.dense_rows.proofs.ColumnLaws.{columns_from_add, columns_from_none, columns_below, rising_columns}
-use Rattle.dense_rows.specs.Areas.{rows_in}
-use Rattle.dense_rows.specs.declared.area.Area.{Area}
+use Rattle.dense_rows.specs.Areas.{rows_seen}
+use Rattle.dense_rows.specs.declared.view.View.{View}
 use Rattle.dense_rows.proofs.StepLaws.{Wide}
 use Rattle.dense_rows.proofs.HeldLaws.{rows_wide}
-use Rattle.dense_rows.proofs.Holding.{rows_count}
+use Rattle.dense_rows.proofs.Holding.{seen_count}
 use Rattle.dense_rows.proofs.SetBits.{onward}
 use Rattle.dense_walk.specs.Eliminate.{pin, back_sub}
 use Rattle.dense_walk.specs.Stairs.{Stairs, Ready}
@@ -61,20 +61,20 @@ back_step n ps rows x i h l = ap₂ (λ (a : List ℕ) (b : List Row). back_sub 
 
 -- ---- the loop
 
-pub record Backing (a : Area) (ps x₀ : List ℕ) (i : ℕ) (x : List ℕ) : Type 0 where
+pub record Backing (a : View) (ps x₀ : List ℕ) (i : ℕ) (x : List ℕ) : Type 0 where
   pub long : length x ≡ length x₀
-  pub so_far : x ≡ back_sub (length x₀) (drop i ps) (drop i (take (length ps) (rows_in a))) x₀
+  pub so_far : x ≡ back_sub (length x₀) (drop i ps) (drop i (take (length ps) (rows_seen a))) x₀
 
-pub backing_begin : (a : Area) (ps x : List ℕ) → Backing a ps x (length ps) x
+pub backing_begin : (a : View) (ps x : List ℕ) → Backing a ps x (length ps) x
 unfolding back_sub
 backing_begin a ps x =
     let e : drop (length ps) ps ≡ [] = drop_of_length-le ps {i = length ps} (le_refl (length ps)) in
-    record { long = refl; so_far = sym (ap (λ (l : List ℕ). back_sub (length x) l (drop (length ps) (take (length ps) (rows_in a))) x) e) }
+    record { long = refl; so_far = sym (ap (λ (l : List ℕ). back_sub (length x) l (drop (length ps) (take (length ps) (rows_seen a))) x) e) }
 
-module _ {a : Area} {ps x₀ : List ℕ} {i : ℕ} {x : List ℕ} (s : Backing a ps x₀ i x) (ranked : length ps ≤ a.m) (ready : Ready (length x₀) a.w ps (take (length ps) (rows_in a))) (j : ℕ)
+module _ {a : View} {ps x₀ : List ℕ} {i : ℕ} {x : List ℕ} (s : Backing a ps x₀ i x) (ranked : length ps ≤ a.m) (ready : Ready (length x₀) a.w ps (take (length ps) (rows_seen a))) (j : ℕ)
     (h : j + 1 ≡ i) (below : i ≤ length ps) where
   row : Row
-  row = get_or (rows_in a) j no_row
+  row = get_or (rows_seen a) j no_row
 
   -- the pivot is a cell, and its row has no column before it
   abbrev Here : Type 0
@@ -84,26 +84,26 @@ module _ {a : Area} {ps x₀ : List ℕ} {i : ℕ} {x : List ℕ} (s : Backing a
   unfolding row
   here =
       let k : j < length ps = omega arith in
-      let t = stairs_at (length x₀) 0 ps (take (length ps) (rows_in a)) j k ready.stairs in
-      rw (get_or-take (length ps) (rows_in a) j no_row k) at t
+      let t = stairs_at (length x₀) 0 ps (take (length ps) (rows_seen a)) j k ready.stairs in
+      rw (get_or-take (length ps) (rows_seen a) j no_row k) at t
 
   fits : Each (λ u. u < length x₀) (columns (64 * a.w) row.words)
   unfolding row
   fits =
       let k : j < length ps = omega arith in
-      let n = rows_count a in
-      let l = length-take-le (length ps) (rows_in a) (omega arith) in
-      rw (get_or-take (length ps) (rows_in a) j no_row k) at (each_at (λ q. Each (λ u. u < length x₀) (columns (64 * a.w) q.words)) (take (length ps) (rows_in a)) no_row j (omega arith) ready.fits)
+      let n = seen_count a in
+      let l = length-take-le (length ps) (rows_seen a) (omega arith) in
+      rw (get_or-take (length ps) (rows_seen a) j no_row k) at (each_at (λ q. Each (λ u. u < length x₀) (columns (64 * a.w) q.words)) (take (length ps) (rows_seen a)) no_row j (omega arith) ready.fits)
 
   wide : length row.words ≡ a.w
   unfolding row
   wide =
-      let n = rows_count a in
+      let n = seen_count a in
       let r = a.room in
-      each_at (Wide a.w) (rows_in a) no_row j (omega arith) (rows_wide a.m a.w a.words.now (drop (a.m * a.w) a.words.now) (omega arith))
+      each_at (Wide a.w) (rows_seen a) no_row j (omega arith) (rows_wide a.m a.w a.words.now (drop (a.m * a.w) a.words.now) (omega arith))
 
   -- the words of the row, as they are read
-  module _ (words : List ℕ) (e : words ≡ (get_or (rows_in a) j no_row).words) where
+  module _ (words : List ℕ) (e : words ≡ (get_or (rows_seen a) j no_row).words) where
     abbrev Onward : List ℕ
     Onward = onward (length words) (get_or ps j 0 / 64) words
 
@@ -122,22 +122,22 @@ module _ {a : Area} {ps x₀ : List ℕ} {i : ℕ} {x : List ℕ} (s : Backing a
         let n = ap length e in
         (omega arith, omega arith, rw (s.long, listed) (columns_below (length x₀) row.words))
 
-    pub backing_turn : {c v : ℕ} → c ≡ (get_or (rows_in a) j no_row).c → v ≡ eval_vars Onward x → Backing a ps x₀ j (set x (get_or ps j 0) (bit_xor c v))
+    pub backing_turn : {c v : ℕ} → c ≡ (get_or (rows_seen a) j no_row).c → v ≡ eval_vars Onward x → Backing a ps x₀ j (set x (get_or ps j 0) (bit_xor c v))
     unfolding row pin
     backing_turn {c} {v} f g =
         let k : j < length ps = omega arith in
-        let n = rows_count a in
-        let l = length-take-le (length ps) (rows_in a) (omega arith) in
-        let y : List ℕ = back_sub (length x₀) (drop (suc j) ps) (drop (suc j) (take (length ps) (rows_in a))) x₀ in
+        let n = seen_count a in
+        let l = length-take-le (length ps) (rows_seen a) (omega arith) in
+        let y : List ℕ = back_sub (length x₀) (drop (suc j) ps) (drop (suc j) (take (length ps) (rows_seen a))) x₀ in
         let step : suc j ≡ i = sym (add-one j) ∙ h in
-        let old : x ≡ y = s.so_far ∙ ap (λ (k : ℕ). back_sub (length x₀) (drop k ps) (drop k (take (length ps) (rows_in a))) x₀) (sym step) in
+        let old : x ≡ y = s.so_far ∙ ap (λ (k : ℕ). back_sub (length x₀) (drop k ps) (drop k (take (length ps) (rows_seen a))) x₀) (sym step) in
         record {
           long = simp length-set s.long;
           so_far =
               ap₂ (λ (a b : ℕ). set x (get_or ps j 0) (bit_xor a b)) f (g ∙ ap (λ (l : List ℕ). eval_vars l x) listed)
               ∙ ap (λ (z : List ℕ). set z (get_or ps j 0) (bit_xor row.c (eval_vars (columns (length x₀) row.words) z))) old
-              ∙ sym (back_step (length x₀) ps (take (length ps) (rows_in a)) x₀ j k (omega arith)
-              ∙ ap (λ (q : Row). pin (length x₀) (get_or ps j 0) q y) (get_or-take (length ps) (rows_in a) j no_row k));
+              ∙ sym (back_step (length x₀) ps (take (length ps) (rows_seen a)) x₀ j k (omega arith)
+              ∙ ap (λ (q : Row). pin (length x₀) (get_or ps j 0) q y) (get_or-take (length ps) (rows_seen a) j no_row k));
         }
 
   pub backing_pivot : get_or ps j 0 < length x

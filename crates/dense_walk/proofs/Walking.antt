@@ -144,7 +144,7 @@ module _ {n : ℕ} {numbers₀ : List ℕ} {a : Area} {rank col : ℕ} {numbers 
       }
 
   -- every column is done, or every row has a pivot
-  pub walking_end : (n ≤ col) ⊎ (rank ≡ b.m) → Eliminated n a.m a.w numbers₀ a.words.now rank numbers b.words.now
+  walking_end : (n ≤ col) ⊎ (rank ≡ b.m) → Eliminated n a.m a.w numbers₀ a.words.now rank numbers b.words.now
   unfolding walk
   walking_end o = record {
     ranked = s.ranked;
@@ -166,6 +166,13 @@ module _ {n : ℕ} {numbers₀ : List ℕ} {a : Area} {rank col : ℕ} {numbers 
 
       ended : walk n 0 (rows_in a) ≡ joined (take rank numbers) (take rank (rows_in b)) (stopped (drop rank (rows_in b)))
       ended = s.future ∙ ap (λ (wk : Walk). joined (take rank numbers) (take rank (rows_in b)) wk) (stop o)
+
+  -- the two ends of the loop
+  pub walking_done : n ≤ col → Eliminated n a.m a.w numbers₀ a.words.now rank numbers b.words.now
+  walking_done h = walking_end (inl h)
+
+  pub walking_full : rank ≡ b.m → Eliminated n a.m a.w numbers₀ a.words.now rank numbers b.words.now
+  walking_full h = walking_end (inr h)
 
 -- ---- the constants that are left
 

@@ -1,14 +1,15 @@
 // The walk over the columns.
 ghost use Rattle.std.specs.Prelude.{◌≡◌, ◌*◌, ◌≤◌, length, drop};
 ghost use Rattle.answers.specs.Sizes.{max_variables};
-ghost use Rattle.dense_rows.specs.Areas.{rows_in, SameArea};
+ghost use Rattle.dense_rows.specs.Areas.{rows_seen, SameArea};
 ghost use Rattle.dense_walk.specs.Eliminate.{residue};
 ghost use Rattle.dense_walk.specs.Areas.{Eliminated};
 
-use dense_rows::Area;
+use dense_rows::{Area, View};
 use dense_steps::take_pivot;
 
 // Columns left to right, until every row has a pivot: the rank. A column that no row has is passed over.
+#[tactic(auto, using(crate::proofs::Walking::walking_done, crate::proofs::Walking::walking_full))]
 pub fn eliminate(n: usize, area: &mut Area, numbers: &mut [u32]) -> usize
     requires { (n ≤ max_variables) × (n ≤ 64 * area.old.w) × (area.old.m ≤ length numbers.old) }
     ensures same { SameArea area.old area.new }
@@ -30,9 +31,9 @@ pub fn eliminate(n: usize, area: &mut Area, numbers: &mut [u32]) -> usize
 }
 
 // Whether a row from the rank on has a constant that is not 0.
-pub fn constant_left(area: &Area, rank: usize) -> bool
-    requires { rank ≤ area.now.m }
-    ensures { result ≡ residue (drop rank (rows_in area.now)) }
+pub fn constant_left(view: View, rank: usize) -> bool
+    requires { rank ≤ view.m }
+    ensures { result ≡ residue (drop rank (rows_seen view.entry)) }
 {
-    (rank..area.m).any(|i| area.constant(i) != 0)
+    (rank..view.m).any(|i| view.constant(i) != 0)
 }

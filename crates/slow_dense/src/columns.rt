@@ -2,11 +2,11 @@
 ghost use Rattle.std.specs.Prelude.{◌≡◌, ◌*◌, ◌≤◌, ◌<◌, length, take};
 ghost use Rattle.gf2.specs.Equation.{Each};
 ghost use Rattle.answers.specs.Sizes.{max_variables};
-ghost use Rattle.dense_rows.specs.Areas.{rows_in, SameArea, Holds};
+ghost use Rattle.dense_rows.specs.Areas.{rows_in, rows_seen, SameArea, Holds};
 ghost use Rattle.slow_rules.specs.Slow.{read_off, pivot_rows};
 ghost use Rattle.slow_dense.specs.Columns.{clear_above, ColumnsDone};
 
-use dense_rows::Area;
+use dense_rows::{Area, View};
 use dense_steps::{clear_rows, take_pivot};
 
 // Each row above the pivot row that has the column gets the pivot row.
@@ -39,11 +39,11 @@ pub fn clear_columns(n: usize, area: &mut Area, numbers: &mut [u32]) -> usize
 }
 
 // Each pivot's cell gets the constant of its row: the row has no other pivot's column, and the cells of its other columns are 0.
-pub fn read_off(area: &Area, pivots: &[u32], solution: &mut [u64])
-    requires { (length pivots.now ≤ area.now.m) × Each (λ p. p < length solution.old) pivots.now }
-    ensures { solution.new ≡ read_off (pivot_rows pivots.now (take (length pivots.now) (rows_in area.now))) solution.old }
+pub fn read_off(view: View, pivots: &[u32], solution: &mut [u64])
+    requires { (length pivots.now ≤ view.m) × Each (λ p. p < length solution.old) pivots.now }
+    ensures { solution.new ≡ read_off (pivot_rows pivots.now (take (length pivots.now) (rows_seen view.entry))) solution.old }
 {
     for (i, pivot) in pivots.iter().enumerate() {
-        solution[*pivot as usize] = area.constant(i);
+        solution[*pivot as usize] = view.constant(i);
     }
 }

@@ -30,6 +30,6 @@ impl Engine for Slow {
     }
 
     fn read(area: &Area, pivots: &[u32], solution: &mut [u64]) {
-        read_off(area, pivots, solution);
+        read_off(area.view(), pivots, solution);
     }
 }

@@ -15,6 +15,7 @@ use dense_rows::DenseSystem;
 use engine::Slow;
 
 // Solves what `dense::dense_gaussian_elimination` solves, in the same room and with the same answers.
+#[tactic(auto, unfolding(slow_rules::specs::SlowCall::slow_call))]
 pub fn slow_gaussian_elimination(
     system: &DenseSystem,
     solution: &mut [u64],

@@ -1,10 +1,12 @@
 -- The calls one after the other: what the laws of the run and of the engine say of them.
-use Rattle.std.proofs.Common.{◌≡◌, refl, sym, ap, subst, ◌∙◌, length, take, arith}
+use Rattle.std.proofs.Common.{◌≡◌, refl, sym, ap, subst, ◌∙◌, length, take, drop, arith}
 use lib.Seq.{length-take-le}
 use Rattle.gf2.specs.Result.{ok}
 use Rattle.dense_rows.specs.Areas.{rows_in}
 use Rattle.dense_rows.specs.Rules.{rows_lent}
+use Rattle.dense_rows.proofs.Holding.{seen_rows}
 use Rattle.dense_rows.proofs.Lending.{dense_kept_sound}
+use Rattle.dense_walk.specs.Eliminate.{residue}
 use Rattle.dense.proofs.Running.{rows_fit, w_is, run_reduced, run_numbers, run_words, tells_refused, tells_solved, zeroed_all, zeroed_length}
 use Rattle.dense.proofs.run.run.Goals as goal
 
@@ -21,6 +23,11 @@ reduce-rank-requires g c =
     let l = c.load.ensures.same in
     (lent.few_variables, omega (arith, lent.columns_there, l, c.requires), omega (arith, l, c.requires))
 
+pub constant_left-requires : goal.constant_left-requires
+constant_left-requires g c =
+    let e = c.reduce-rank.ensures in
+    omega (arith, e.reduced, e.same, c.view.ensures)
+
 pub returns-then-constant_left-clause-told : goal.returns-then-constant_left-clause-told
 returns-then-constant_left-clause-told g c =
     let s = c.args.system.now in
@@ -29,7 +36,7 @@ returns-then-constant_left-clause-told g c =
     tells_refused g.E.Engine.elimination s c.args.solution.now c.args.numbers.now c.args.area.now.words.now _
     (c.clear_room.ensures.numbers_after ∙ run_numbers s c.requires.3 c.requires.4 l e.same e.reduced)
     (c.clear_room.ensures.words_after ∙ run_words s c.requires.3 c.requires.4 l e.same e.reduced)
-    (g.met.E.Engine.refuses s.n (rows_lent s) _ _ _ (run_reduced s c.requires.3 c.requires.4 l e.same e.reduced) (sym c.constant_left.ensures ∙ c.if-constant_left.true))
+    (g.met.E.Engine.refuses s.n (rows_lent s) _ _ _ (run_reduced s c.requires.3 c.requires.4 l e.same e.reduced) (sym (c.constant_left.ensures ∙ ap (λ rows. residue (drop c.reduce-rank.result rows)) (seen_rows c.view.ensures)) ∙ c.if-constant_left.true))
     refl
 
 pub read-requires : goal.read-requires
@@ -59,4 +66,4 @@ returns-clause-told g c =
     tells_solved g.E.Engine.elimination s c.args.solution.now c.args.numbers.now c.args.area.now.words.now _
     (c.clear_room-2.ensures.numbers_after ∙ run_numbers s c.requires.3 c.requires.4 l e.same e.reduced)
     (c.clear_room-2.ensures.words_after ∙ run_words s c.requires.3 c.requires.4 l e.same e.reduced)
-    (g.met.E.Engine.solves s.n (rows_lent s) _ _ _ (run_reduced s c.requires.3 c.requires.4 l e.same e.reduced) (sym c.constant_left.ensures ∙ c.if-constant_left.false) ∙ ap ok (sym values))
+    (g.met.E.Engine.solves s.n (rows_lent s) _ _ _ (run_reduced s c.requires.3 c.requires.4 l e.same e.reduced) (sym (c.constant_left.ensures ∙ ap (λ rows. residue (drop c.reduce-rank.result rows)) (seen_rows c.view.ensures)) ∙ c.if-constant_left.false) ∙ ap ok (sym values))

@@ -4,7 +4,7 @@ use Rattle.dense_walk.proofs.Backing.{backing_begin, backing_pivot, backing_row,
 use Rattle.dense_walk.proofs.back.back_substitution.Goals as goal
 
 pub loop-i-init : goal.loop-i-init
-loop-i-init c = backing_begin c.args.area.now c.args.pivots.now c.args.solution.now
+loop-i-init c = backing_begin c.args.view c.args.pivots.now c.args.solution.now
 
 pub row_value-requires : goal.row_value-requires
 row_value-requires c =

@@ -1,6 +1,7 @@
-use Rattle.std.proofs.Common.{sym}
-use Rattle.dense_rows.proofs.HeldLaws.{held_constant}
 use Rattle.dense_rows.proofs.area.Area.constant.Goals as goal
 
+pub constant-requires : goal.constant-requires
+constant-requires c = let v = c.view.ensures in rw v.same_m c.requires
+
 pub returns : goal.returns
-returns c = let a = c.args.self.now in sym (held_constant a.m a.w a.words.now a.room c.args.i c.requires)
+returns c = let v = c.view.ensures in rw (v.same_m, v.same_w, v.same_words) at c.constant.ensures

@@ -1,17 +1,7 @@
--- A search over the numbers of the rows.
-use Rattle.std.proofs.Common.{◌≡◌, true, false, get_or, rules, tests}
-use Rattle.std.proofs.lemmas.Iterator.{first_from_Range}
-use Rattle.dense_rows.specs.Bits.{has_bit}
-use Rattle.dense_rows.specs.Steps.{no_row}
-use Rattle.dense_rows.specs.Areas.{rows_in}
-use Rattle.dense_rows.proofs.HeldLaws.{held_length}
-use Rattle.dense_rows.proofs.Searching.{searched}
 use Rattle.dense_rows.proofs.area.Area.find_pivot.Goals as goal
 
+pub find_pivot-requires : goal.find_pivot-requires
+find_pivot-requires c = let v = c.view.ensures in rw (v.same_m, v.same_w) c.requires
+
 pub returns : goal.returns
-returns c =
-    let a = c.args.self.now in
-    let col = c.args.col in
-    searched col c.args.rank a.m (rows_in a) (held_length a.m a.w a.words.now a.room) c.requires.0 c.find.result
-    (first_from_Range _ _ _ _ (λ i. has_bit col (get_or (rows_in a) i no_row) ≡ true) (λ i. has_bit col (get_or (rows_in a) i no_row) ≡ false) c.find.ensures.ran
-    (λ x q k. search (rules, tests)) (λ x q k. search (rules, tests)))
+returns c = let v = c.view.ensures in rw (v.same_m, v.same_w, v.same_words) at c.find_pivot.ensures

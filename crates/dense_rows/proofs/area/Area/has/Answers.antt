@@ -1,5 +1,7 @@
-use Rattle.dense_rows.proofs.BitTest.{bit_tested}
 use Rattle.dense_rows.proofs.area.Area.has.Goals as goal
 
+pub has-requires : goal.has-requires
+has-requires c = let v = c.view.ensures in rw (v.same_m, v.same_w) c.requires
+
 pub returns : goal.returns
-returns c = let a = c.args.self.now in bit_tested a.m a.w c.args.col c.args.i a.words.now a.room c.requires.0 c.requires.1
+returns c = let v = c.view.ensures in rw (v.same_m, v.same_w, v.same_words) at c.has.ensures

@@ -1,6 +1,7 @@
-use Rattle.std.proofs.Common.{sym}
-use Rattle.dense_rows.proofs.HeldLaws.{row_lent}
 use Rattle.dense_rows.proofs.area.Area.row.Goals as goal
 
+pub row-requires : goal.row-requires
+row-requires c = let v = c.view.ensures in rw v.same_m c.requires
+
 pub returns : goal.returns
-returns c = let a = c.args.self.now in sym (row_lent a.m a.w a.words.now _ c.args.i c.requires)
+returns c = let v = c.view.ensures in rw (v.same_m, v.same_w, v.same_words) at c.row.ensures
