@@ -4,7 +4,7 @@ ghost use Rattle.peel_runs.specs.Runs.{Leaves};
 ghost use Rattle.peel_calls.specs.Judging.{peeling_call};
 
 use answers::Unpeeled;
-use peel_gates::rules::judge;
+use peel_gates::rules::judge_lent;
 use peel_runs::run::run_peeler;
 use peel_turns::record::Record;
 use peeling::numbers::Edge;
@@ -19,6 +19,6 @@ pub fn peel_by_sig_vals<M: Record>(
 ) -> Result<(), Unpeeled>
     ensures { Leaves (peeling_call M.high n edges.now solution.old numbers.old bytes.old) (peeling_of result) solution.new numbers.new bytes.new }
 {
-    judge::<M>(n, edges, solution, numbers, bytes)?;
+    judge_lent::<M>(n, edges, solution, numbers, bytes)?;
     run_peeler::<M>(edges, n, solution, numbers, bytes)
 }

@@ -1,6 +1,7 @@
 -- The lowest bad edge is the place that the library's search finds.
 use Rattle.std.proofs.Common.{◌≡◌, refl, List, ◌∷◌, Bool, true, false, ℕ, suc, ◌+◌, ◌<◌, ◌≤◌, length, cond, not, nat_lt, arith}
-use Rattle.std.proofs.Common.{Option, Some, None, MatchOption}
+use Rattle.std.proofs.Common.{sym, Option, Some, None, MatchOption}
+use Rattle.std.specs.Option.{unwrap_or}
 use Rattle.std.specs.List.{position, position_or_len}
 use Rattle.std.proofs.lemmas.List.Recursion.{is_position_or_len}
 use Rattle.std.proofs.lemmas.List.Sums.{prefix_len-le-length}
@@ -30,3 +31,8 @@ bad_is_position n es h = rw h (go (nat_lt k (length es)) refl)
     go : (b : Bool) → nat_lt k (length es) ≡ b → MatchOption (cond b (Some k) None) (bad_edge n es ≡ length es) (λ i. (bad_edge n es ≡ i) × (i < length es))
     go true q = (is, ltb-true k (length es) q)
     go false q = let le : k ≤ length es = prefix_len-le-length _ es in omega (arith, is, ltb-false k (length es) q)
+
+-- an option that holds the count where it is below the end is the count, with the end for none
+pub counted_or : (k m : ℕ) (r : Option ℕ) → MatchOption r (k ≡ m) (λ i. (k ≡ i) × (i < m)) → unwrap_or r m ≡ k
+counted_or k m None e = sym e
+counted_or k m (Some i) e = sym e.0

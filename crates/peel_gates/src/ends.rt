@@ -1,10 +1,18 @@
 // What a peeler answers.
 ghost use Rattle.std.specs.Prelude.{◌≡◌, ◌≤◌};
 ghost use Rattle.answers.specs.Sizes.{max_equations};
-ghost use Rattle.peel_rules.specs.Report.{report_of};
+ghost use Rattle.answers.specs.Answers.{CrowdedVertex};
+ghost use Rattle.peel_rules.specs.Report.{no_report, report_of};
 ghost use Rattle.peel_gates.specs.Ends.{end_of, peeling_of};
 
-use answers::{StuckReport, Unpeeled};
+use answers::{Refusal, StuckReport, Unpeeled};
+
+// A vertex lies on a crowd of edges.
+pub fn crowded(low: usize) -> Result<(), Unpeeled>
+    ensures { peeling_of result ≡ record { answer = CrowdedVertex low; report = no_report } }
+{
+    Err(Unpeeled::Refused(Refusal::CrowdedVertex(low)))
+}
 
 // Stuck where an edge is left, solved where none is.
 pub fn ended(m: usize, peeled: usize) -> Result<(), Unpeeled>

@@ -26,8 +26,34 @@ pub fn bad_edge(n: usize, edges: &[Edge]) -> Option<usize>
     edges.iter().position(|e| !keeps_rule(n, *e))
 }
 
-// Tries the refusals 1, 3, 4 and 5.
+// Tries the refusals 1, 3, 4 and 5: `cells`, `numbers` and `bytes` are the lengths that are lent, `bad` is the lowest edge that breaks its rule, m where there is none.
 pub fn judge<M: Memory>(
+    n: usize,
+    m: usize,
+    bad: usize,
+    cells: usize,
+    numbers: usize,
+    bytes: usize,
+) -> Result<(), Refusal>
+    ensures { gate_by result ≡ gate_of M.high n m bad cells numbers bytes }
+{
+    if MAX_VARIABLES < n || MAX_EQUATIONS < m {
+        return Err(Refusal::TooLarge);
+    }
+    if bad < m {
+        return Err(Refusal::BadEntry(bad));
+    }
+    if cells != n {
+        return Err(Refusal::WrongSolution);
+    }
+    if numbers < M::numbers_room(n, m) || bytes < M::bytes_room(n, m) {
+        return Err(Refusal::ShortArea);
+    }
+    Ok(())
+}
+
+// The same of what is lent.
+pub fn judge_lent<M: Memory>(
     n: usize,
     edges: &[Edge],
     solution: &[u64],
@@ -37,17 +63,6 @@ pub fn judge<M: Memory>(
     ensures { gate_by result ≡ gate_of M.high n (length edges.now) (bad_edge n edges.now) (length solution.now) (length numbers.now) (length bytes.now) }
 {
     let m = edges.len();
-    if MAX_VARIABLES < n || MAX_EQUATIONS < m {
-        return Err(Refusal::TooLarge);
-    }
-    if let Some(bad) = bad_edge(n, edges) {
-        return Err(Refusal::BadEntry(bad));
-    }
-    if solution.len() != n {
-        return Err(Refusal::WrongSolution);
-    }
-    if numbers.len() < M::numbers_room(n, m) || bytes.len() < M::bytes_room(n, m) {
-        return Err(Refusal::ShortArea);
-    }
-    Ok(())
+    let bad = bad_edge(n, edges).unwrap_or(m);
+    judge::<M>(n, m, bad, solution.len(), numbers.len(), bytes.len())
 }

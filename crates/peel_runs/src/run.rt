@@ -3,7 +3,8 @@ ghost use Rattle.peel_gates.specs.Ends.{peeling_of};
 ghost use Rattle.peel_runs.specs.Runs.{BuiltAsks, Leaves, run_says, run_call};
 ghost use Rattle.peel_parts.specs.Parts.{Admitted, Past, Says};
 
-use answers::{Refusal, Unpeeled};
+use answers::Unpeeled;
+use peel_gates::ends::crowded;
 use peel_gates::rooms::clear_room;
 use peel_parts::parts::{build_graph, peel_and_fill};
 use peel_turns::record::Record;
@@ -23,7 +24,7 @@ pub fn run_graph<M: Record>(
     ensures past { Past M.high n edges.now numbers.old bytes.old numbers.new bytes.new }
 {
     if let Some(v) = low {
-        return Err(Refusal::CrowdedVertex(v.0 as usize).into());
+        return crowded(v.0 as usize);
     }
     peel_and_fill::<M>(edges, n, solution, numbers, bytes)
 }

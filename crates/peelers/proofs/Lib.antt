@@ -1,1 +1,2 @@
+pub mod ProgramLaws
 pub mod Examples

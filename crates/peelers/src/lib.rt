@@ -2,3 +2,4 @@
 #![tactic(auto)]
 
 pub mod calls; // the peelers
+pub mod programs; // the peelers for programs
