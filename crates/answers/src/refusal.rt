@@ -2,6 +2,7 @@
 ghost use Rattle.std.specs.Prelude.{◌≡◌};
 ghost use Rattle.answers.specs.Answers.{Answer, refusal_of, unpeeled_of, answer_by};
 ghost use Rattle.answers.specs.Numbers.{number_of, place_of};
+ghost use Rattle.answers.specs.Report.{no_report};
 
 // Why a call is refused; a number in brackets is the place.
 #[derive(Clone, Copy, PartialEq, Debug)]
@@ -26,6 +27,20 @@ pub struct StuckReport {
     pub edges: usize,
     // The percentage of edges that are in the core.
     pub unpeeled: f64,
+}
+
+impl StuckReport {
+    // The report of a peeler that is not stuck.
+    #[tactic(auto, using(crate::proofs::Counts::nothing))]
+    pub fn none() -> StuckReport
+        ensures { result ≡ no_report }
+    {
+        StuckReport {
+            peeled: 0,
+            edges: 0,
+            unpeeled: 0.0,
+        }
+    }
 }
 
 // Why a peeler hands back no solution.
