@@ -70,11 +70,11 @@ pub result_determined : (call : Call) {solution solution' numbers numbers' words
 result_determined call r r' p q = let d = determined call (answer_of r) (answer_of r') p q in (same_result r r' d.0, d.1, d.2, d.3)
 
 -- what a solver that counts promises: what the call tells, and of its sums the total of a run
-abbrev pub Promised : Call → ℕ → Built → List ℕ → List ℕ → List ℕ → Type 0
+abbrev pub Promised : Call → ℕ → Built Refusal → List ℕ → List ℕ → List ℕ → Type 0
 Promised call total built solution numbers words =
     Tells call (number_of (answer_of built.answer)) (place_of (answer_of built.answer)) solution numbers words × (built.cancelled ≡ reported call.answer total)
 
-pub built_determined : (call : Call) (total : ℕ) {solution solution' numbers numbers' words words' : List ℕ} (built built' : Built) → Promised call total built solution numbers words
+pub built_determined : (call : Call) (total : ℕ) {solution solution' numbers numbers' words words' : List ℕ} (built built' : Built Refusal) → Promised call total built solution numbers words
     → Promised call total built' solution' numbers' words' → (built ≡ built') × (solution ≡ solution') × (numbers ≡ numbers') × (words ≡ words')
 built_determined call total built built' p q =
     let d = result_determined call built.answer built'.answer p.0 q.0 in

@@ -1,7 +1,8 @@
 // Why a call is refused, and what calls hand back.
-ghost use Rattle.std.specs.Prelude.{◌≡◌};
+ghost use Rattle.std.specs.Prelude.{◌≡◌, Result, Err};
 ghost use Rattle.answers.specs.Answers.{Answer, refusal_of, unpeeled_of, answer_by};
 ghost use Rattle.answers.specs.Numbers.{number_of, place_of};
+ghost use Rattle.answers.specs.Report.{no_report};
 
 // Why a call is refused; a number in brackets is the place.
 #[derive(Clone, Copy, PartialEq, Debug)]
@@ -26,6 +27,20 @@ pub struct StuckReport {
     pub edges: usize,
     // The percentage of edges that are in the core.
     pub unpeeled: f64,
+}
+
+impl StuckReport {
+    // The report of a peeler that is not stuck.
+    #[tactic(auto, using(crate::proofs::Counts::nothing))]
+    pub fn none() -> StuckReport
+        ensures { result ≡ no_report }
+    {
+        StuckReport {
+            peeled: 0,
+            edges: 0,
+            unpeeled: 0.0,
+        }
+    }
 }
 
 // Why a peeler hands back no solution.
@@ -130,21 +145,53 @@ pub fn tell<T, E: Numbered>(answer: &Result<T, E>, told: &mut usize) -> u32
     number(answer)
 }
 
+// What may stand for a call's answer: a result, or a reason alone.
+pub trait IntoAnswer<E>: Copy {
+    ghost as_answer: { Self → Result (Unit {0}) E };
+
+    fn into_answer(self) -> Result<(), E>
+        ensures { result ≡ as_answer self };
+}
+
+impl<E: Copy> IntoAnswer<E> for Result<(), E> {
+    ghost as_answer = { λ answer. answer };
+
+    fn into_answer(self) -> Result<(), E> {
+        self
+    }
+}
+
+impl IntoAnswer<Refusal> for Refusal {
+    ghost as_answer = { λ refusal. Err refusal };
+
+    fn into_answer(self) -> Result<(), Refusal> {
+        Err(self)
+    }
+}
+
+impl IntoAnswer<Unpeeled> for Unpeeled {
+    ghost as_answer = { λ reason. Err reason };
+
+    fn into_answer(self) -> Result<(), Unpeeled> {
+        Err(self)
+    }
+}
+
 // What a solver's call answers, and how many variables cancelled in the sums that it made.
 #[derive(Clone, Copy, PartialEq, Debug)]
-pub struct Built {
-    pub answer: Result<(), Refusal>,
+pub struct Built<E = Refusal> {
+    pub answer: Result<(), E>,
     pub cancelled: u64,
 }
 
-impl Built {
-    // A call that is refused before it makes a sum.
-    pub fn refused(refusal: Refusal) -> Built
-        ensures answer_value { result.answer ≡ Err refusal }
+impl<E: Copy> Built<E> {
+    // A call that is answered before it makes a sum, whatever the answer.
+    pub fn refused<A: IntoAnswer<E>>(answer: A) -> Built<E>
+        ensures answer_value { result.answer ≡ A.as_answer answer }
         ensures cancelled_value { result.cancelled ≡ 0 }
     {
         Built {
-            answer: Err(refusal),
+            answer: answer.into_answer(),
             cancelled: 0,
         }
     }

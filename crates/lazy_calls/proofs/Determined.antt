@@ -4,6 +4,7 @@ use contract.Lifetimes.{Lfts}
 use denote.Triple.Clauses.{AtExit}
 use borrow.Fn.Kinds.{Dens, ended_of}
 use Rattle.answers.specs.declared.refusal.Built.{Built}
+use Rattle.answers.specs.declared.refusal.Refusal.{Refusal}
 use Rattle.answers.proofs.Determined.{built_determined}
 use Rattle.system.specs.declared.System.{System}
 use Rattle.system.specs.Lent.{equations_in}
@@ -33,7 +34,7 @@ module _ (κs : Lfts 5) where
   system a = a.0.now
 
   -- `Post` is the contract: what it says of the arguments, the result and the parameters at exit
-  pub lazy_determined : (args : Arguments) (r r' : Built) (exit exit' : Exit) → lazy_gaussian_elimination.Post κs args r exit → lazy_gaussian_elimination.Post κs args r' exit'
+  pub lazy_determined : (args : Arguments) (r r' : Built Refusal) (exit exit' : Exit) → lazy_gaussian_elimination.Post κs args r exit → lazy_gaussian_elimination.Post κs args r' exit'
       → (r ≡ r') × (solution exit ≡ solution exit') × (numbers exit ≡ numbers exit') × (words exit ≡ words exit')
   lazy_determined args r r' exit exit' p q =
       built_determined (lazy_call_in (system args) args.1.0.now args.1.1.0.now args.1.1.1.0.now) (lazy_cancels (system args).n (equations_in (system args))) r r' p q

@@ -13,17 +13,12 @@ use peelers::calls::{peel_by_sig_vals_high_mem, peel_by_sig_vals_low_mem};
 use peeling::numbers::{Edge, Vertex};
 
 // The report of a peeler: zeros where it is not stuck.
-#[tactic(auto, using(peel_rules::proofs::Counts::nothing))]
 fn report_of(end: &Result<(), Unpeeled>) -> StuckReport
     ensures { result ≡ (peeling_of end.now).report }
 {
     match *end {
         Err(Unpeeled::Stuck(report)) => report,
-        _ => StuckReport {
-            peeled: 0,
-            edges: 0,
-            unpeeled: 0.0,
-        },
+        _ => StuckReport::none(),
     }
 }
 

@@ -7,6 +7,7 @@ use denote.Triple.Clauses.{AtExit}
 use borrow.Fn.Kinds.{Dens, ended_of}
 use Rattle.answers.specs.Calls.{Call}
 use Rattle.answers.specs.declared.refusal.Built.{Built}
+use Rattle.answers.specs.declared.refusal.Refusal.{Refusal}
 use Rattle.answers.proofs.Determined.{built_determined}
 use Rattle.system.specs.Lent.{equations_in}
 use Rattle.system.specs.declared.System.{System}
@@ -36,6 +37,6 @@ module _ (κs : Lfts 5) where
   call a = let s : System = a.0.now in sparse_call s.n s.m s.starts.now s.vars.now s.constants.now a.1.0.now a.1.1.0.now a.1.1.1.0.now
 
   -- `Post` is the contract: what it says of the arguments, the result and the parameters at exit
-  pub sparse_determined : (args : Arguments) (r r' : Built) (exit exit' : Exit) → gaussian_elimination.Post κs args r exit → gaussian_elimination.Post κs args r' exit'
+  pub sparse_determined : (args : Arguments) (r r' : Built Refusal) (exit exit' : Exit) → gaussian_elimination.Post κs args r exit → gaussian_elimination.Post κs args r' exit'
       → (r ≡ r') × (solution exit ≡ solution exit') × (numbers exit ≡ numbers exit') × (words exit ≡ words exit')
   sparse_determined args r r' exit exit' p q = built_determined (call args) (sparse_cancels (equations_in args.0.now)) r r' p q
