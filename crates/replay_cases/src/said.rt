@@ -1,5 +1,5 @@
 // What a case says must be answered.
-ghost use Rattle.std.specs.Prelude.{◌≡◌};
+ghost use Rattle.std.specs.Prelude.{◌≡◌, get_or};
 ghost use Rattle.answers.specs.Answers.{answer_by};
 ghost use Rattle.replay_cases.specs.Judged.{is_refusal, said_by, agreement, verdict_of};
 
@@ -42,6 +42,20 @@ pub fn said_of(list: &[u64]) -> Said
             panicked: 0,
         },
     }
+}
+
+// The word at `i`, 0 past the end.
+pub fn word_at(words: &[u64], i: usize) -> u64
+    ensures { result ≡ get_or words.now i 0 }
+{
+    words.get(i).copied().unwrap_or(0)
+}
+
+// The number at `i`, 0 past the end.
+pub fn number_at(numbers: &[u32], i: usize) -> u32
+    ensures { result ≡ get_or numbers.now i 0 }
+{
+    numbers.get(i).copied().unwrap_or(0)
 }
 
 pub fn agrees<T, E: Numbered>(answer: &Result<T, E>, said: Said) -> bool
