@@ -1,5 +1,5 @@
 // The parts of a run over a table whose edges keep their rule.
-ghost use Rattle.std.specs.Prelude.{◌≡◌, length};
+ghost use Rattle.std.specs.Prelude.{◌≡◌};
 ghost use Rattle.peel_gates.specs.Ends.{peeling_of};
 ghost use Rattle.peel_steps.specs.Lowest.{vertex_or};
 ghost use Rattle.peel_walks.specs.Walks.{PeelEnds};
@@ -42,19 +42,20 @@ pub fn peel_edges<M: Record>(
     peel::<M>(edges, n, first, numbers, bytes)
 }
 
-// Fills the cells if every edge is peeled.
+// Fills the cells if at least `m` edges are peeled.
 pub fn fill_cells<M: Record>(
     edges: &[Edge],
     n: usize,
+    m: usize,
     count: usize,
     solution: &mut [u64],
     numbers: &[u32],
     bytes: &[u8],
 )
     requires { FillAsks M.high n edges.now count solution.old numbers.now bytes.now }
-    ensures { solution.new ≡ cells_after M.high n edges.now (length edges.now) count solution.old numbers.now bytes.now }
+    ensures { solution.new ≡ cells_after M.high n edges.now m count solution.old numbers.now bytes.now }
 {
-    if count < edges.len() {
+    if count < m {
         return;
     }
     fill(solution, 0, n, 0);
@@ -73,8 +74,9 @@ pub fn settle<M: Record>(
     requires { SettleAsks M.high n edges.now count solution.old numbers.now bytes.now }
     ensures { Says (ran_says M.high n edges.now solution.old) (peeling_of result) solution.new }
 {
-    fill_cells::<M>(edges, n, count, solution, numbers, bytes);
-    ended(edges.len(), count)
+    let m = edges.len();
+    fill_cells::<M>(edges, n, m, count, solution, numbers, bytes);
+    ended(m, count)
 }
 
 // The run where no vertex lies on 64 edges.
