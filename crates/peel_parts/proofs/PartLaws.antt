@@ -28,7 +28,7 @@ use Rattle.peel_gates.specs.Ends.{Peeling}
 use Rattle.peel_turns.specs.declared.visiting.Heads.{Heads}
 use Rattle.peel_steps.specs.Pictures.{peeled_in}
 use Rattle.peel_gates.specs.Rooms.{numbers_room, bytes_room}
-use Rattle.peel_turns.specs.Steps.{Preloaded}
+use Rattle.peel_turns.specs.Steps.{Preloaded, next_of}
 use Rattle.peel_gates.specs.Rooms.{Lent}
 use Rattle.peel_gates.specs.Ends.{end_of}
 use Rattle.peel_turns.proofs.PictureLaws.{drop_agrees}
@@ -122,27 +122,27 @@ lent_on a p q = record { n_small = a.n_small; m_small = a.m_small; numbers_room 
 -- ---- the peeling
 
 module _ {high : Bool} {n : ℕ} {T : List Edge} {numbers bytes : List ℕ} (a : PeelAsks high n T numbers bytes) where
-  module _ {first : Heads} {d : List ℕ} (p : Preloaded n numbers bytes d first.stack × (first.peeled ≡ 0)) where
-    pub starts : PeelStarts high n T d bytes first
-    starts = record {
-      lent = lent_on a.lent p.0.long refl;
-      valid = a.valid;
-      uncrowded = a.uncrowded;
-      graph = p.0.graph ∙ a.graph;
-      stack = p.0.stack ∙ ap (mones n) a.graph;
-      none = p.1;
-    }
+  pub starts : {first : Heads} {d : List ℕ} → Preloaded n numbers bytes d first.stack → first.peeled ≡ 0 → first.next ≡ next_of n first.stack d bytes → PeelStarts high n T d bytes first
+  starts p z q = record {
+    lent = lent_on a.lent p.long refl;
+    valid = a.valid;
+    uncrowded = a.uncrowded;
+    graph = p.graph ∙ a.graph;
+    stack = p.stack ∙ ap (mones n) a.graph;
+    none = z;
+    next = q;
+  }
 
-    pub peeled_all : {d' b' : List ℕ} {count : ℕ} → PeelEnds high n T d bytes d' b' count → PeelEnds high n T numbers bytes d' b' count
-    peeled_all e = record {
-      long = e.long ∙ p.0.long;
-      long_b = e.long_b;
-      rest = e.rest ∙ drop_agrees (n + n) (numbers_room high n (length T)) d numbers (room_least high n (length T)).0 p.0.rest;
-      rest_b = e.rest_b;
-      peeled = e.peeled;
-      counts = e.counts;
-      fillable = e.fillable;
-    }
+  pub peeled_all : {top count : ℕ} {d d' b' : List ℕ} → Preloaded n numbers bytes d top → PeelEnds high n T d bytes d' b' count → PeelEnds high n T numbers bytes d' b' count
+  peeled_all {top} {count} {d} p e = record {
+    long = e.long ∙ p.long;
+    long_b = e.long_b;
+    rest = e.rest ∙ drop_agrees (n + n) (numbers_room high n (length T)) d numbers (room_least high n (length T)).0 p.rest;
+    rest_b = e.rest_b;
+    peeled = e.peeled;
+    counts = e.counts;
+    fillable = e.fillable;
+  }
 
 -- ---- the filling
 

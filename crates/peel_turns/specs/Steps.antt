@@ -1,10 +1,10 @@
 -- What the peelers' steps ask of the areas, and what they make of them.
-use Rattle.std.specs.Prelude.{◌≡◌, List, Bool, true, false, ℕ, ◌+◌, ◌-◌, ◌%◌, ◌≤◌, ◌<◌, length, get_or, drop}
+use Rattle.std.specs.Prelude.{◌≡◌, List, Bool, true, false, cond, ℕ, ◌+◌, ◌-◌, ◌/◌, ◌%◌, ◌≤◌, ◌<◌, length, get_or, drop, eqb}
 use Rattle.answers.specs.Sizes.{max_variables}
 use Rattle.peeling.specs.declared.numbers.Edge.{Edge}
 use Rattle.peeling.specs.Graph.{remove, clear}
 use Rattle.peel_rules.specs.Edges.{Valid, first, second}
-use Rattle.peel_rules.specs.Machine.{side_from, side_no, first_side, no_edge, mpush, graph_after, stack_after, mones}
+use Rattle.peel_rules.specs.Machine.{side_from, side_no, first_side, mpush, graph_after, stack_after, mones}
 use Rattle.peel_turns.specs.declared.visiting.Heads.{Heads}
 use Rattle.peel_steps.specs.Pictures.{graph_in, stack_in, kept_numbers, kept_bytes}
 
@@ -68,28 +68,37 @@ Keeps false n k numbers bytes = (k < n) × (n + n ≤ length numbers)
 abbrev pub top_of : ℕ → ℕ → List ℕ → ℕ
 top_of n stack numbers = get_or numbers (n + (stack - 1)) 0
 
--- what a vertex that has an edge asks
-pub record Busy (high : Bool) (n : ℕ) (T : List Edge) (stack peeled : ℕ) (numbers bytes : List ℕ) (v i t : ℕ) : Type 0 where
-  pub numbered : i < length T
-  pub keeps : Keeps high n peeled numbers bytes
-  pub takes : TakesOff n (stack - 1) (kept_numbers high n peeled v i numbers) (kept_bytes high n peeled t bytes) v i t (get_or T i no_edge)
+-- the edge to read for the vertex on top: where it has none, any will do
+abbrev pub next_of : ℕ → ℕ → List ℕ → List ℕ → ℕ
+next_of n stack numbers bytes =
+    cond (eqb stack 0) 0 (cond (eqb (get_or bytes (top_of n stack numbers) 0 / 4) 0) 0 (get_or numbers (top_of n stack numbers) 0))
 
-pub record Turns (high : Bool) (n : ℕ) (T : List Edge) (stack peeled : ℕ) (numbers bytes : List ℕ) : Type 0 where
+-- the vertex on top can be read
+pub record Tops (n stack : ℕ) (numbers bytes : List ℕ) : Type 0 where
   pub holds : Holds n numbers bytes
-  pub some_left : 0 < stack
   pub within : stack ≤ n
-  pub top< : top_of n stack numbers < n
+  pub top< : 0 < stack → top_of n stack numbers < n
+
+-- what a vertex that has an edge asks
+pub record Busy (high : Bool) (n stack peeled : ℕ) (e : Edge) (numbers bytes : List ℕ) (v i t : ℕ) : Type 0 where
+  pub keeps : Keeps high n peeled numbers bytes
+  pub takes : TakesOff n (stack - 1) (kept_numbers high n peeled v i numbers) (kept_bytes high n peeled t bytes) v i t e
+
+pub record Turns (high : Bool) (n stack peeled : ℕ) (e : Edge) (numbers bytes : List ℕ) : Type 0 where
+  pub some_left : 0 < stack
+  pub tops : Tops n stack numbers bytes
+  pub next< : Tops n (stack - 1) numbers bytes
   pub few : peeled < max_variables
   pub busy : 4 ≤ get_or bytes (top_of n stack numbers) 0
-      → Busy high n T stack peeled numbers bytes (top_of n stack numbers) (get_or numbers (top_of n stack numbers) 0) (get_or bytes (top_of n stack numbers) 0 % 4)
+      → Busy high n stack peeled e numbers bytes (top_of n stack numbers) (get_or numbers (top_of n stack numbers) 0) (get_or bytes (top_of n stack numbers) 0 % 4)
 
-pub record Turned (high : Bool) (n : ℕ) (T : List Edge) (stack peeled : ℕ) (numbers bytes numbers' bytes' : List ℕ) (r : Heads) : Type 0 where
+pub record Turned (high : Bool) (n stack peeled : ℕ) (e : Edge) (numbers bytes numbers' bytes' : List ℕ) (r : Heads) : Type 0 where
+  pub next : r.next ≡ next_of n r.stack numbers' bytes'
   pub long : length numbers' ≡ length numbers
   pub long_b : length bytes' ≡ length bytes
   pub skipped : get_or bytes (top_of n stack numbers) 0 < 4 → (numbers' ≡ numbers) × (bytes' ≡ bytes) × (r.stack ≡ stack - 1) × (r.peeled ≡ peeled)
   pub took : 4 ≤ get_or bytes (top_of n stack numbers) 0
       → TakenOff n (stack - 1) (kept_numbers high n peeled (top_of n stack numbers) (get_or numbers (top_of n stack numbers) 0) numbers)
       (kept_bytes high n peeled (get_or bytes (top_of n stack numbers) 0 % 4) bytes) numbers' bytes'
-      (top_of n stack numbers) (get_or numbers (top_of n stack numbers) 0) (get_or bytes (top_of n stack numbers) 0 % 4)
-      (get_or T (get_or numbers (top_of n stack numbers) 0) no_edge) r.stack
+      (top_of n stack numbers) (get_or numbers (top_of n stack numbers) 0) (get_or bytes (top_of n stack numbers) 0 % 4) e r.stack
       × (r.peeled ≡ peeled + 1)

@@ -2,7 +2,7 @@
 // Both areas stay parameters of their own, here and above: of a struct of two slices that is lent by `&mut` the checker forgets the elements of a field
 // that a call has read, so each function would take both out first.
 ghost use Rattle.std.specs.Prelude.{◌≡◌, ◌+◌, ◌<◌, length, set};
-ghost use Rattle.peel_turns.specs.Steps.{Holds, Preloaded, Visits, Visited, TakesOff, TakenOff, Turns, Turned};
+ghost use Rattle.peel_turns.specs.Steps.{Holds, Preloaded, Visits, Visited, TakesOff, TakenOff, next_of, Tops, Turns, Turned};
 
 use crate::record::Record;
 use peel_steps::sides::{first_of, first_side, second_of, second_side};
@@ -19,6 +19,8 @@ pub struct Heads {
     pub stack: usize,
     // How many edges are peeled.
     pub peeled: usize,
+    // The edge to be read for the vertex on top.
+    pub next: usize,
 }
 
 // Pushes the vertex, and hands back the stack's head.
@@ -85,39 +87,56 @@ fn take_off(
     visit(n, head, b, t, numbers, bytes)
 }
 
-// Pops a vertex: one of degree 0 is skipped; of any other the edge is recorded and taken off.
-pub fn turn<M: Record>(
-    edges: &[Edge],
-    n: usize,
-    h: Heads,
-    numbers: &mut [u32],
-    bytes: &mut [u8],
-) -> Heads
-    requires { Turns M.high n edges.now h.stack h.peeled numbers.old bytes.old }
-    ensures { Turned M.high n edges.now h.stack h.peeled numbers.old bytes.old numbers.new bytes.new result }
+// The edge of the vertex on top of the stack.
+fn next_edge(n: usize, stack: usize, numbers: &[u32], bytes: &[u8]) -> usize
+    requires { Tops n stack numbers.now bytes.now }
+    ensures { result ≡ next_of n stack numbers.now bytes.now }
+{
+    if stack == 0 {
+        return 0;
+    }
+    let v = Vertex(numbers[n + (stack - 1)]);
+    if degree_at(bytes, v) == 0 {
+        return 0;
+    }
+    number_at(numbers, v).0 as usize
+}
+
+// Pops a vertex: one of degree 0 is skipped; of any other the edge, which is `e`, is recorded and taken off.
+pub fn turn<M: Record>(n: usize, h: Heads, e: Edge, numbers: &mut [u32], bytes: &mut [u8]) -> Heads
+    requires { Turns M.high n h.stack h.peeled e numbers.old bytes.old }
+    ensures { Turned M.high n h.stack h.peeled e numbers.old bytes.old numbers.new bytes.new result }
 {
     let top = h.stack - 1;
     let v = Vertex(numbers[n + top]);
     if degree_at(bytes, v) == 0 {
-        return Heads { stack: top, ..h };
+        let below = next_edge(n, top, numbers, bytes);
+        return Heads {
+            stack: top,
+            next: below,
+            ..h
+        };
     }
     let at = EdgeAndSide {
         edge: number_at(numbers, v),
         side: side_at(bytes, v),
     };
-    let e = edges[at.edge.0 as usize];
     M::keep(n, h.peeled, v, at, numbers, bytes);
     let stack = take_off(n, top, v, at, e, numbers, bytes);
+    let next = next_edge(n, stack, numbers, bytes);
     Heads {
         stack,
         peeled: h.peeled + 1,
+        next,
     }
 }
 
 // Puts the vertices of degree 1 on the stack, in rising order.
 pub fn preload(n: usize, numbers: &mut [u32], bytes: &[u8]) -> Heads
     requires { Holds n numbers.old bytes.now }
-    ensures { Preloaded n numbers.old bytes.now numbers.new result.stack × (result.peeled ≡ 0) }
+    ensures preloaded { Preloaded n numbers.old bytes.now numbers.new result.stack }
+    ensures none_peeled { result.peeled ≡ 0 }
+    ensures next { result.next ≡ next_of n result.stack numbers.new bytes.now }
 {
     let mut top = 0;
     for v in 0..n {
@@ -126,8 +145,10 @@ pub fn preload(n: usize, numbers: &mut [u32], bytes: &[u8]) -> Heads
             top = push(n, top, w, numbers);
         }
     }
+    let first = next_edge(n, top, numbers, bytes);
     Heads {
         stack: top,
         peeled: 0,
+        next: first,
     }
 }

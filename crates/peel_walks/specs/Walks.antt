@@ -7,6 +7,7 @@ use Rattle.peel_rules.specs.Edges.{Valid}
 use Rattle.peel_rules.specs.Peel.{peel, crowded_vertex}
 use Rattle.peel_rules.specs.Machine.{no_edge, build, empty, mones}
 use Rattle.peel_turns.specs.declared.visiting.Heads.{Heads}
+use Rattle.peel_turns.specs.Steps.{next_of}
 use Rattle.peel_steps.specs.Pictures.{graph_in, stack_in, number_at, peeled_in}
 use Rattle.peel_gates.specs.Rooms.{numbers_room, bytes_room}
 use Rattle.peel_steps.specs.Pictures.{Reads}
@@ -26,6 +27,7 @@ pub record PeelStarts (high : Bool) (n : ℕ) (T : List Edge) (numbers bytes : L
   pub graph : graph_in n numbers bytes ≡ build 0 T (empty n)
   pub stack : stack_in n first.stack numbers ≡ mones n (build 0 T (empty n))
   pub none : first.peeled ≡ 0
+  pub next : first.next ≡ next_of n first.stack numbers bytes
 
 -- the record of the first `count` peeled edges can be read, and leads to edges over `cells` vertices
 pub record Fillable (high : Bool) (n : ℕ) (T : List Edge) (count cells : ℕ) (numbers bytes : List ℕ) : Type 0 where

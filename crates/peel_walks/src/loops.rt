@@ -43,7 +43,7 @@ pub fn peel<M: Record>(
     let mut h = first;
     // No `for`: the turns say how many there are.
     while 0 < h.stack {
-        h = turn::<M>(edges, n, h, numbers, bytes);
+        h = turn::<M>(n, h, edges[h.next], numbers, bytes);
     }
     h.peeled
 }
