@@ -57,9 +57,9 @@ pub fn load(system: &System, numbers: &mut [u32], at: Layout)
         × (s.m * s.n ≤ length numbers.old) × (at.lengths + s.m ≤ length numbers.old)
         × (at.idle + s.n ≤ length numbers.old) × (at.priority + s.m ≤ length numbers.old) }
     requires numbers_value { stretch 0 (system.now.m * system.now.n) numbers.old ≡ replicate (system.now.m * system.now.n) 0 }
-    ensures { let lengths = spans system.now.m system.now.starts.now in
-        (constants : List ℕ) → let rows = rows_of system.now.n (equations system.now.m system.now.starts.now system.now.vars.now constants) in
-        numbers.new ≡ put at.idle (replicate system.now.n 1) (put at.priority lengths (put at.lengths lengths (put 0 rows numbers.old))) }
+    ensures { let s = system.now in let lengths = spans s.m s.starts.now in (constants : List ℕ)
+        → let rows = rows_of s.n (equations s.m s.starts.now s.vars.now constants) in
+        numbers.new ≡ put at.idle (replicate s.n 1) (put at.priority lengths (put at.lengths lengths (put 0 rows numbers.old))) }
 {
     load_rows(system, numbers);
     write_lengths(system, numbers, at.lengths);

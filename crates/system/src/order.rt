@@ -22,8 +22,8 @@ fn in_order(n: usize, vars: &[u32]) -> bool
 // The lowest equation that is not in order; the constants are not read.
 pub fn lowest_bad(system: &System) -> Option<usize>
     requires { starts_kept system.now.m (length system.now.vars.now) system.now.starts.now ≡ true }
-    ensures { (constants : List ℕ) → let low = lowest_bad system.now.n (equations system.now.m system.now.starts.now system.now.vars.now constants) in
-        MatchOption result (low ≡ system.now.m) (λ i. (i < system.now.m) × (i ≡ low)) }
+    ensures { let s = system.now in (constants : List ℕ) → let low = lowest_bad s.n (equations s.m s.starts.now s.vars.now constants) in
+        MatchOption result (low ≡ s.m) (λ i. (i < s.m) × (i ≡ low)) }
 {
     for i in 0..system.m {
         if !in_order(system.n, system.variables(i)) {

@@ -18,7 +18,10 @@ fn starts_kept(m: usize, t: usize, starts: &[u32]) -> bool
     requires { m ≤ max_equations }
     ensures { result ≡ starts_kept m t starts.now }
 {
-    if starts.len() != m + 1 || starts[0] != 0 || !starts.is_sorted_by(|before, start| *before <= *start) {
+    if starts.len() != m + 1
+        || starts[0] != 0
+        || !starts.is_sorted_by(|before, start| *before <= *start)
+    {
         return false;
     }
     starts[m] as usize == t
