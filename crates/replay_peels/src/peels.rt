@@ -6,7 +6,7 @@ use peeling::numbers::{Edge, Vertex};
 use replay_cases::judging::judged;
 use replay_cases::lend::{Room, Way};
 use replay_cases::lists::Lists;
-use replay_cases::said::{Said, Verdict, came_of, said_of};
+use replay_cases::said::{Said, Verdict, came_of, number_at, said_of, word_at};
 use replay_cases::ways::each_way;
 
 // Which peeler is called.
@@ -18,9 +18,9 @@ pub enum Peeler {
 
 // What the Rust logs when it is stuck: edges in all, and the percentage unpeeled in hundredths.
 #[derive(Clone, Copy)]
-struct Logged {
-    edges: u64,
-    hundredths: u64,
+pub struct Logged {
+    pub edges: u64,
+    pub hundredths: u64,
 }
 
 // What a case says beside the edges.
@@ -40,19 +40,14 @@ const NO_EDGE: Edge = Edge {
     value: 0,
 };
 
-// The number at `i`, 0 past the end.
-fn vertex_at(vertices: &[u32], i: usize) -> Vertex {
-    Vertex(vertices.get(i).copied().unwrap_or(0))
-}
-
 fn table_of(vertices: &[u32], values: &[u64]) -> [Edge; EDGES] {
     let mut table = [NO_EDGE; EDGES];
     for (i, edge) in table.iter_mut().enumerate() {
         *edge = Edge {
-            a: vertex_at(vertices, 3 * i),
-            b: vertex_at(vertices, 3 * i + 1),
-            c: vertex_at(vertices, 3 * i + 2),
-            value: values.get(i).copied().unwrap_or(0),
+            a: Vertex(number_at(vertices, 3 * i)),
+            b: Vertex(number_at(vertices, 3 * i + 1)),
+            c: Vertex(number_at(vertices, 3 * i + 2)),
+            value: word_at(values, i),
         };
     }
     table
@@ -145,8 +140,8 @@ fn verdict(peeler: Peeler, bytes: &[u8]) -> Option<Verdict> {
     let told = Told {
         said: said_of(list),
         logged: Logged {
-            edges: list.get(3).copied().unwrap_or(0),
-            hundredths: list.get(4).copied().unwrap_or(0),
+            edges: word_at(list, 3),
+            hundredths: word_at(list, 4),
         },
         found: &found[..l],
     };

@@ -4,7 +4,7 @@ use equation::Summed;
 use lent_cells::cells::left;
 use replay_cases::lend::{Room, Way};
 use replay_cases::lists::Lists;
-use replay_cases::said::{Said, Verdict, agrees, came_of, said_of};
+use replay_cases::said::{Said, Verdict, agrees, came_of, said_of, word_at};
 use replay_cases::ways::each_way;
 
 // Both equations, and the sum that the case says.
@@ -101,7 +101,7 @@ fn verdict(bytes: &[u8]) -> Option<Verdict> {
         right: &right[..j],
         constants,
         found: &found[..l],
-        constant: list.get(3).copied().unwrap_or(0),
+        constant: word_at(list, 3),
     };
     Some(came_of(sum_ways(&sum, said), said))
 }
