@@ -2,13 +2,11 @@
 use mathlib.Core.Path.{◌≡◌, sym, ap, ap₂, ◌∙◌}
 use mathlib.Core.List.{List, [], ◌∷◌, ◌++◌}
 use Prim.Native.Nat.{ℕ, ◌+◌, ◌-◌, ◌*◌, ◌<◌, ◌≤◌}
-use borrow.Rule.Slice.PartMut.{put_mid}
 use native.Mathlib.Nat.{add-zero}
 use native.Mathlib.Omega.{arith}
-use lib.ListN.{length, get_or}
+use lib.ListN.{length, get_or, set}
 use Rattle.areas.specs.Stretch.{stretch, put, exchanged}
-use Rattle.areas.proofs.Stretch.{put_none, put_then, put_comm, length-put, length-stretch, stretch_none, stretch_snoc, stretch_split, stretch-put_before, stretch-put_after}
-use Rattle.areas.proofs.Parts.{put_mid_is_put}
+use Rattle.areas.proofs.Stretch.{put_none, put_then, put_comm, put_more, set_is_put, length-put, length-stretch, stretch_none, stretch_snoc, stretch_split, stretch-put_before, stretch-put_after}
 use Rattle.rows.specs.Front.{Exchanged}
 
 -- i of each, and then w of each behind them
@@ -56,16 +54,21 @@ four_read : (b : ℕ) (l : List ℕ) → b + 4 ≤ length l → stretch b 4 l �
 four_read b l h =
     rw (stretch_snoc b 3 l (omega arith), stretch_snoc b 2 l (omega arith), stretch_snoc b 1 l (omega arith), stretch_snoc b 0 l (omega arith), stretch_none b l, add-zero b)
 
-pub four_done : (d s t : List ℕ) (p q : ℕ) → p + 4 ≤ q → q + 4 ≤ length d → s ≡ four p d → t ≡ four q d
-    → put_mid p (p + 4 - p) (put_mid q (q + 4 - q) d s) t ≡ exchanged p q 4 d
-four_done d s t p q h g es et =
-    let ep : p + 4 - p ≡ 4 = omega arith in
-    let eq : q + 4 - q ≡ 4 = omega arith in
-    let fs : s ≡ stretch p 4 d = es ∙ sym (four_read p d (omega arith)) in
-    let ft : t ≡ stretch q 4 d = et ∙ sym (four_read q d g) in
-    rw (ep, eq, fs, ft)
-    (put_mid_is_put p 4 (put_mid q 4 d (stretch p 4 d)) (stretch q 4 d) (length-stretch q 4 d g)
-    ∙ ap (put p (stretch q 4 d)) (put_mid_is_put q 4 d (stretch p 4 d) (length-stretch p 4 d (omega arith))))
+four_set : (b x y z w : ℕ) (l : List ℕ) → b + 4 ≤ length l → set (set (set (set l b x) (b + 1) y) (b + 2) z) (b + 3) w ≡ put b (x ∷ y ∷ z ∷ w ∷ []) l
+four_set b x y z w l h =
+    rw (set_is_put b x l (omega arith))
+    (ap (λ (o : List ℕ). set (set o (b + 2) z) (b + 3) w) (put_more b y (x ∷ []) l (omega arith))
+    ∙ ap (λ (o : List ℕ). set o (b + 3) w) (put_more b z (x ∷ y ∷ []) l (omega arith))
+    ∙ put_more b w (x ∷ y ∷ z ∷ []) l (omega arith))
+
+pub four_done : (d : List ℕ) (p q : ℕ) → p + 4 ≤ q → q + 4 ≤ length d
+    → set (set (set (set (set (set (set (set d q (get_or d p 0)) (q + 1) (get_or d (p + 1) 0)) (q + 2) (get_or d (p + 2) 0)) (q + 3) (get_or d (p + 3) 0))
+    p (get_or d q 0)) (p + 1) (get_or d (q + 1) 0)) (p + 2) (get_or d (q + 2) 0)) (p + 3) (get_or d (q + 3) 0) ≡ exchanged p q 4 d
+four_done d p q h g =
+    ap (λ (o : List ℕ). set (set (set (set o p (get_or d q 0)) (p + 1) (get_or d (q + 1) 0)) (p + 2) (get_or d (q + 2) 0)) (p + 3) (get_or d (q + 3) 0))
+    (four_set q (get_or d p 0) (get_or d (p + 1) 0) (get_or d (p + 2) 0) (get_or d (p + 3) 0) d g)
+    ∙ four_set p (get_or d q 0) (get_or d (q + 1) 0) (get_or d (q + 2) 0) (get_or d (q + 3) 0) (put q (four p d) d) (omega (arith, length-put q (four p d) d g))
+    ∙ ap₂ (λ (x y : List ℕ). put p x (put q y d)) (sym (four_read q d g)) (sym (four_read p d (omega arith)))
 
 -- .. and four more, behind k fours
 pub one_more_four : (d e f : List ℕ) (p q k n : ℕ) → k < n → p + 4 * n ≤ q → q + 4 * n ≤ length d → e ≡ exchanged p q (4 * k) d → f ≡ exchanged (p + 4 * k) (q + 4 * k) 4 e
