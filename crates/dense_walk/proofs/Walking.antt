@@ -144,7 +144,7 @@ module _ {n : ℕ} {numbers₀ : List ℕ} {a : Area} {rank col : ℕ} {numbers 
       }
 
   -- every column is done, or every row has a pivot
-  walking_end : (n ≤ col) ⊎ (rank ≡ b.m) → Eliminated n a.m a.w numbers₀ a.words.now rank numbers b.words.now
+  pub walking_end : (n ≤ col) ⊎ (rank ≡ b.m) → Eliminated n a.m a.w numbers₀ a.words.now rank numbers b.words.now
   unfolding walk
   walking_end o = record {
     ranked = s.ranked;

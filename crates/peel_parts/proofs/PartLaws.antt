@@ -34,7 +34,7 @@ use Rattle.peel_gates.specs.Ends.{end_of}
 use Rattle.peel_turns.proofs.PictureLaws.{drop_agrees}
 use Rattle.areas.proofs.Stretch.{cleared_is_put}
 use Rattle.peel_steps.specs.Lowest.{vertex_or}
-use Rattle.peel_walks.specs.Walks.{PeelStarts, PeelEnds}
+use Rattle.peel_walks.specs.Walks.{PeelStarts, PeelsFrom, PeelEnds}
 use Rattle.peel_walks.proofs.TableLaws.{valid_more}
 use Rattle.peel_parts.specs.Parts.{Begins, GraphBuilt, PeelAsks, cells_after, SettleAsks, Says, ran_says}
 
@@ -122,16 +122,19 @@ lent_on a p q = record { n_small = a.n_small; m_small = a.m_small; numbers_room 
 -- ---- the peeling
 
 module _ {high : Bool} {n : ℕ} {T : List Edge} {numbers bytes : List ℕ} (a : PeelAsks high n T numbers bytes) where
-  pub starts : {first : Heads} {d : List ℕ} → Preloaded n numbers bytes d first.stack → first.peeled ≡ 0 → first.next ≡ next_of n first.stack d bytes → PeelStarts high n T d bytes first
-  starts p z q = record {
-    lent = lent_on a.lent p.long refl;
-    valid = a.valid;
-    uncrowded = a.uncrowded;
-    graph = p.graph ∙ a.graph;
-    stack = p.stack ∙ ap (mones n) a.graph;
-    none = z;
-    next = q;
-  }
+  module _ {first : Heads} {d : List ℕ} (p : Preloaded n numbers bytes d first.stack × (first.peeled ≡ 0)) where
+    pub starts : PeelStarts high n T d bytes first
+    starts = record {
+      lent = lent_on a.lent p.0.long refl;
+      valid = a.valid;
+      uncrowded = a.uncrowded;
+      graph = p.0.graph ∙ a.graph;
+      stack = p.0.stack ∙ ap (mones n) a.graph;
+      none = p.1;
+    }
+
+  pub starts_from : {first : Heads} {d : List ℕ} → Preloaded n numbers bytes d first.stack → first.peeled ≡ 0 → first.next ≡ next_of n first.stack d bytes → PeelsFrom high n T d bytes first
+  starts_from {first} {d} p z q = let s = starts {first = first} {d = d} (p, z) in record { lent = s.lent; valid = s.valid; uncrowded = s.uncrowded; graph = s.graph; stack = s.stack; none = s.none; next = q }
 
   pub peeled_all : {top count : ℕ} {d d' b' : List ℕ} → Preloaded n numbers bytes d top → PeelEnds high n T d bytes d' b' count → PeelEnds high n T numbers bytes d' b' count
   peeled_all {top} {count} {d} p e = record {

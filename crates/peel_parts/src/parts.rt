@@ -11,7 +11,7 @@ use peel_gates::ends::ended;
 use peel_gates::rooms::empty_graph;
 use peel_turns::record::Record;
 use peel_turns::visiting::preload;
-use peel_walks::loops::{add_edges, assign, peel};
+use peel_walks::loops::{add_edges, assign, peel_from};
 use peeling::numbers::{Edge, Vertex};
 
 // Makes the graph of the edges, and hands back the lowest vertex that came to its 64th incidence.
@@ -39,7 +39,7 @@ pub fn peel_edges<M: Record>(
     ensures { PeelEnds M.high n edges.now numbers.old bytes.old numbers.new bytes.new result }
 {
     let first = preload(n, numbers, bytes);
-    peel::<M>(edges, n, first, numbers, bytes)
+    peel_from::<M>(edges, n, first, numbers, bytes)
 }
 
 // Fills the cells if at least `m` edges are peeled.

@@ -16,7 +16,8 @@ use Rattle.peel_rules.specs.Edges.{Valid, Side}
 use Rattle.peel_rules.specs.Machine.{side_from, mpush, stack_after, mones}
 use Rattle.peel_rules.proofs.PeelEmpty.{first<, second<}
 use Rattle.peel_steps.specs.Pictures.{graph_in, rising, stack_in, kept_numbers, kept_bytes}
-use Rattle.peel_turns.specs.Steps.{Holds, TakesOff, TakenOff, Keeps, top_of, next_of, Tops, Turns}
+use Rattle.peel_turns.specs.Steps.{Holds, TakesOff, TakenOff, Keeps, top_of, next_of, Tops}
+use Rattle.peel_turns.specs.TurnsOn.{TurnsOn}
 use Rattle.peel_turns.proofs.PictureLaws.{pushed, raised, rising_length, rising_pushed, take_pushed, pushed_length, in_graph}
 
 -- ---- the next edge
@@ -80,7 +81,7 @@ set_below n i j x l h hx b = go (eqb j i) refl
     go true q = rw (eqb-true j i q, get_or-set_same l i x 0 h) hx
     go false q = rw (get_or-set_other l i j x 0 (eqb-false j i q)) b
 
-module _ {high : Bool} {n stack peeled : ℕ} {e : Edge} {numbers bytes : List ℕ} (k : Turns high n stack peeled e numbers bytes) where
+module _ {high : Bool} {n stack peeled : ℕ} {e : Edge} {numbers bytes : List ℕ} (k : TurnsOn high n stack peeled e numbers bytes) where
   abbrev v : ℕ
   v = top_of n stack numbers
 

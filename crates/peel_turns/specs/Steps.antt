@@ -4,7 +4,7 @@ use Rattle.answers.specs.Sizes.{max_variables}
 use Rattle.peeling.specs.declared.numbers.Edge.{Edge}
 use Rattle.peeling.specs.Graph.{remove, clear}
 use Rattle.peel_rules.specs.Edges.{Valid, first, second}
-use Rattle.peel_rules.specs.Machine.{side_from, side_no, first_side, mpush, graph_after, stack_after, mones}
+use Rattle.peel_rules.specs.Machine.{side_from, side_no, first_side, no_edge, mpush, graph_after, stack_after, mones}
 use Rattle.peel_turns.specs.declared.visiting.Heads.{Heads}
 use Rattle.peel_steps.specs.Pictures.{graph_in, stack_in, kept_numbers, kept_bytes}
 
@@ -80,25 +80,29 @@ pub record Tops (n stack : ℕ) (numbers bytes : List ℕ) : Type 0 where
   pub top< : 0 < stack → top_of n stack numbers < n
 
 -- what a vertex that has an edge asks
-pub record Busy (high : Bool) (n stack peeled : ℕ) (e : Edge) (numbers bytes : List ℕ) (v i t : ℕ) : Type 0 where
+pub record Busy (high : Bool) (n : ℕ) (T : List Edge) (stack peeled : ℕ) (numbers bytes : List ℕ) (v i t : ℕ) : Type 0 where
+  pub numbered : i < length T
   pub keeps : Keeps high n peeled numbers bytes
-  pub takes : TakesOff n (stack - 1) (kept_numbers high n peeled v i numbers) (kept_bytes high n peeled t bytes) v i t e
+  pub takes : TakesOff n (stack - 1) (kept_numbers high n peeled v i numbers) (kept_bytes high n peeled t bytes) v i t (get_or T i no_edge)
 
-pub record Turns (high : Bool) (n stack peeled : ℕ) (e : Edge) (numbers bytes : List ℕ) : Type 0 where
+-- what a turn that reads the table asks
+pub record Turns (high : Bool) (n : ℕ) (T : List Edge) (stack peeled : ℕ) (numbers bytes : List ℕ) : Type 0 where
+  pub holds : Holds n numbers bytes
   pub some_left : 0 < stack
-  pub tops : Tops n stack numbers bytes
-  pub next< : Tops n (stack - 1) numbers bytes
+  pub within : stack ≤ n
+  pub top< : top_of n stack numbers < n
   pub few : peeled < max_variables
   pub busy : 4 ≤ get_or bytes (top_of n stack numbers) 0
-      → Busy high n stack peeled e numbers bytes (top_of n stack numbers) (get_or numbers (top_of n stack numbers) 0) (get_or bytes (top_of n stack numbers) 0 % 4)
+      → Busy high n T stack peeled numbers bytes (top_of n stack numbers) (get_or numbers (top_of n stack numbers) 0) (get_or bytes (top_of n stack numbers) 0 % 4)
 
-pub record Turned (high : Bool) (n stack peeled : ℕ) (e : Edge) (numbers bytes numbers' bytes' : List ℕ) (r : Heads) : Type 0 where
-  pub next : r.next ≡ next_of n r.stack numbers' bytes'
+-- what it leaves
+pub record Turned (high : Bool) (n : ℕ) (T : List Edge) (stack peeled : ℕ) (numbers bytes numbers' bytes' : List ℕ) (r : Heads) : Type 0 where
   pub long : length numbers' ≡ length numbers
   pub long_b : length bytes' ≡ length bytes
   pub skipped : get_or bytes (top_of n stack numbers) 0 < 4 → (numbers' ≡ numbers) × (bytes' ≡ bytes) × (r.stack ≡ stack - 1) × (r.peeled ≡ peeled)
   pub took : 4 ≤ get_or bytes (top_of n stack numbers) 0
       → TakenOff n (stack - 1) (kept_numbers high n peeled (top_of n stack numbers) (get_or numbers (top_of n stack numbers) 0) numbers)
       (kept_bytes high n peeled (get_or bytes (top_of n stack numbers) 0 % 4) bytes) numbers' bytes'
-      (top_of n stack numbers) (get_or numbers (top_of n stack numbers) 0) (get_or bytes (top_of n stack numbers) 0 % 4) e r.stack
+      (top_of n stack numbers) (get_or numbers (top_of n stack numbers) 0) (get_or bytes (top_of n stack numbers) 0 % 4)
+      (get_or T (get_or numbers (top_of n stack numbers) 0) no_edge) r.stack
       × (r.peeled ≡ peeled + 1)

@@ -3,6 +3,7 @@
 // that a call has read, so each function would take both out first.
 ghost use Rattle.std.specs.Prelude.{◌≡◌, ◌+◌, ◌<◌, length, set};
 ghost use Rattle.peel_turns.specs.Steps.{Holds, Preloaded, Visits, Visited, TakesOff, TakenOff, next_of, Tops, Turns, Turned};
+ghost use Rattle.peel_turns.specs.TurnsOn.{TurnsOn, TurnedOn};
 
 use crate::record::Record;
 use peel_steps::sides::{first_of, first_side, second_of, second_side};
@@ -87,8 +88,8 @@ fn take_off(
     visit(n, head, b, t, numbers, bytes)
 }
 
-// The edge of the vertex on top of the stack.
-fn next_edge(n: usize, stack: usize, numbers: &[u32], bytes: &[u8]) -> usize
+// The edge of the vertex on top of the stack: where it has none, any will do.
+pub fn next_edge(n: usize, stack: usize, numbers: &[u32], bytes: &[u8]) -> usize
     requires { Tops n stack numbers.now bytes.now }
     ensures { result ≡ next_of n stack numbers.now bytes.now }
 {
@@ -102,10 +103,46 @@ fn next_edge(n: usize, stack: usize, numbers: &[u32], bytes: &[u8]) -> usize
     number_at(numbers, v).0 as usize
 }
 
-// Pops a vertex: one of degree 0 is skipped; of any other the edge, which is `e`, is recorded and taken off.
-pub fn turn<M: Record>(n: usize, h: Heads, e: Edge, numbers: &mut [u32], bytes: &mut [u8]) -> Heads
-    requires { Turns M.high n h.stack h.peeled e numbers.old bytes.old }
-    ensures { Turned M.high n h.stack h.peeled e numbers.old bytes.old numbers.new bytes.new result }
+// Pops a vertex: one of degree 0 is skipped; of any other the edge is recorded and taken off. It reads no `next`, and tells none.
+pub fn turn<M: Record>(
+    edges: &[Edge],
+    n: usize,
+    h: Heads,
+    numbers: &mut [u32],
+    bytes: &mut [u8],
+) -> Heads
+    requires { Turns M.high n edges.now h.stack h.peeled numbers.old bytes.old }
+    ensures { Turned M.high n edges.now h.stack h.peeled numbers.old bytes.old numbers.new bytes.new result }
+{
+    let top = h.stack - 1;
+    let v = Vertex(numbers[n + top]);
+    if degree_at(bytes, v) == 0 {
+        return Heads { stack: top, ..h };
+    }
+    let at = EdgeAndSide {
+        edge: number_at(numbers, v),
+        side: side_at(bytes, v),
+    };
+    let e = edges[at.edge.0 as usize];
+    M::keep(n, h.peeled, v, at, numbers, bytes);
+    let stack = take_off(n, top, v, at, e, numbers, bytes);
+    Heads {
+        stack,
+        peeled: h.peeled + 1,
+        ..h
+    }
+}
+
+// The same, where the edge of the vertex on top is `e`; hands back the edge of the vertex that comes on top, too.
+pub fn turn_on<M: Record>(
+    n: usize,
+    h: Heads,
+    e: Edge,
+    numbers: &mut [u32],
+    bytes: &mut [u8],
+) -> Heads
+    requires { TurnsOn M.high n h.stack h.peeled e numbers.old bytes.old }
+    ensures { TurnedOn M.high n h.stack h.peeled e numbers.old bytes.old numbers.new bytes.new result }
 {
     let top = h.stack - 1;
     let v = Vertex(numbers[n + top]);

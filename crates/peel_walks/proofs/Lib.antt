@@ -1,2 +1,4 @@
 pub mod TableLaws
 pub mod PeelLaws
+pub mod FromLaws
+pub mod TwoEdges

@@ -10,7 +10,7 @@ use native.Mathlib.Nat.{zero-add, suc-add}
 use lib.ListN.{get_or-eq_default, length, get_or, set, take, drop, length-set}
 use lib.Seq.{get_or-set_same, get_or-set_other, drop-set-lt, take-set-le, get_or-drop}
 use lib.Dec.{eqb, ltb, leb}
-use borrow.Author.Tests.{leb-true, leb-false, ltb-true, ltb-false, eqb-true, eqb-false, ne_eqb}
+use borrow.Author.Tests.{leb-true, leb-false, ltb-true, ltb-false, eqb-true, eqb-false}
 use Rattle.gf2.specs.Equation.{Each}
 use Rattle.peeling.specs.declared.numbers.Edge.{Edge}
 use Rattle.peeling.specs.Graph.{Graph, degree_of, remove, clear}
@@ -28,7 +28,7 @@ use Rattle.peel_rules.proofs.PeelRoom.{both_fit}
 use Rattle.peel_turns.specs.declared.visiting.Heads.{Heads}
 use Rattle.peel_steps.specs.Pictures.{graph_in, rising, falling, stack_in, kept_numbers, kept_bytes, number_at, peeled_in}
 use Rattle.peel_gates.specs.Rooms.{numbers_room, bytes_room}
-use Rattle.peel_turns.specs.Steps.{Holds, TakenOff, Keeps, top_of, next_of, Busy, Turns, Turned}
+use Rattle.peel_turns.specs.Steps.{Holds, TakenOff, Keeps, top_of, Busy, Turns, Turned}
 use Rattle.peel_steps.specs.Pictures.{Reads}
 use Rattle.peel_steps.proofs.SideLaws.{pivot<}
 use Rattle.peel_turns.proofs.PictureLaws.{rising_length, rising_above, falling_below, in_graph, drop_agrees}
@@ -143,18 +143,6 @@ sane_run n k T v = run-inv (Sane n (length T)) (step-inv (Sane n (length T))
       count = omega (arith, without_length v fs h, s.count);
     }))
     k (start n T) (record { inv = start_inv n T v; below = below_ones n n T (omega arith); count = omega arith })
-
-no_edges : (n k : ℕ) → (run k (start n [])).stack ≡ []
-unfolding start ones degree
-no_edges n k = ap (λ (l : List ℕ). (run k (record { left = []; stack = l; peeled = [] })).stack) (none_on n) ∙ ap (λ (s : State). s.stack) (run_idle k [] [])
-  where
-    none_on : (m : ℕ) → ones m [] ≡ []
-    none_on zero = refl
-    none_on (suc m) = none_on m
-
-some_edges : (n k v : ℕ) (st : List ℕ) (T : List Edge) → (run k (start n T)).stack ≡ v ∷ st → 0 < length T
-some_edges n k v st [] h = absurd (omega (arith, ap length (sym (no_edges n k) ∙ h)))
-some_edges n k v st (e ∷ T) h = omega arith
 
 none_left : (l : List ℕ) → length l ≤ 0 → l ≡ []
 none_left [] h = refl
@@ -297,7 +285,6 @@ pub record Loop (high : Bool) (n : ℕ) (T : List Edge) (numbers₀ bytes₀ num
   pub stack : stack_in n h.stack numbers ≡ (run pops (start n T)).stack
   pub logged : Logged high T n h.peeled numbers bytes (run pops (start n T)).peeled
   pub count : h.peeled ≡ length (run pops (start n T)).peeled
-  pub next : h.next ≡ next_of n h.stack numbers bytes
   pub long : length numbers ≡ length numbers₀
   pub long_b : length bytes ≡ length bytes₀
   pub rest : drop (numbers_room high n (length T)) numbers ≡ drop (numbers_room high n (length T)) numbers₀
@@ -358,7 +345,6 @@ module _ {high : Bool} {n : ℕ} {T : List Edge} {numbers₀ bytes₀ : List ℕ
         stack = s.stack ∙ ap (λ (m : Machine). m.lower) r.machine;
         logged = rw s.none (none_logged high T n numbers₀ bytes₀);
         count = s.none;
-        next = s.next;
         long = refl;
         long_b = refl;
         rest = refl;
@@ -368,7 +354,7 @@ module _ {high : Bool} {n : ℕ} {T : List Edge} {numbers₀ bytes₀ : List ℕ
   abbrev St : ℕ → State
   St k = run k (start n T)
 
-  sane : (k : ℕ) → Sane n (length T) (St k)
+  pub sane : (k : ℕ) → Sane n (length T) (St k)
   sane k = sane_run n k T s.valid
 
   -- what is left to do
@@ -387,7 +373,7 @@ module _ {high : Bool} {n : ℕ} {T : List Edge} {numbers₀ bytes₀ : List ℕ
     abbrev R : State
     R = St l.pops
 
-    fits : h.stack + h.peeled ≤ n
+    pub fits : h.stack + h.peeled ≤ n
     fits = omega (arith, both_fit n l.pops T s.valid, ap length l.stack, rising_length n h.stack numbers, l.count)
 
     pub holds : Holds n numbers bytes
@@ -408,7 +394,7 @@ module _ {high : Bool} {n : ℕ} {T : List Edge} {numbers₀ bytes₀ : List ℕ
       abbrev st : List ℕ
       st = stack_in n top numbers
 
-      split : R.stack ≡ v ∷ st
+      pub split : R.stack ≡ v ∷ st
       unfolding rising
       split = sym l.stack ∙ ap (λ (k : ℕ). rising n k numbers) back
         where
@@ -417,14 +403,6 @@ module _ {high : Bool} {n : ℕ} {T : List Edge} {numbers₀ bytes₀ : List ℕ
 
       pub v< : v < n
       v< = (subst (Each (λ w. w < n)) split (sane l.pops).below).0
-
-      rest_below : Each (λ w. w < n) st
-      rest_below = (subst (Each (λ w. w < n)) split (sane l.pops).below).1
-
-      under : (k : ℕ) → Each (λ w. w < n) (rising n k numbers) → 0 < k → top_of n k numbers < n
-      unfolding rising
-      under zero b q = absurd (omega arith)
-      under (suc k) b q = let e : suc k - 1 ≡ k = omega arith in rw e b.0
 
       inv : Inv n (record { left = edges_n l.ns; stack = v ∷ st; peeled = R.peeled })
       inv = subst (λ (es : List Edge). Inv n (record { left = es; stack = v ∷ st; peeled = R.peeled })) l.left (subst (λ (u : List ℕ). Inv n (record { left = R.left; stack = u; peeled = R.peeled })) split (sane l.pops).inv)
@@ -454,17 +432,6 @@ module _ {high : Bool} {n : ℕ} {T : List Edge} {numbers₀ bytes₀ : List ℕ
       side_is : side_at g v ≡ side_from t
       unfolding side_at
       side_is = ap (λ (b : ℕ). side_from (b % 4)) byte_is
-
-      -- the edge was read
-      pub next< : h.next < length T
-      next< = rw (l.next, ne_eqb h.stack 0 (omega (arith, pos))) (go (eqb (get_or bytes v 0 / 4) 0) refl)
-        where
-          go : (b : Bool) → eqb (get_or bytes v 0 / 4) 0 ≡ b → cond b 0 i < length T
-          go true q = some_edges n l.pops v st T split
-          go false q =
-              let four : 4 ≤ get_or g.degrees v 0 = omega (arith, byte_is, eqb-false (get_or bytes v 0 / 4) 0 q) in
-              let k = (taking T n l.ns v st R.peeled g inv l.rel four).facts.number in
-              omega (arith, k, i_is)
 
       module _ (four : 4 ≤ get_or bytes v 0) where
         took : Taking T n l.ns v st R.peeled g i (side_from t) d
@@ -500,8 +467,9 @@ module _ {high : Bool} {n : ℕ} {T : List Edge} {numbers₀ bytes₀ : List ℕ
         keeps : Keeps high n h.peeled numbers bytes
         keeps = keeps_room high n (length T) h.peeled numbers bytes (omega (arith, s.lent.numbers_room, l.long)) (omega (arith, s.lent.bytes_room, l.long_b)) few few_n
 
-        pub busy_asks : Busy high n h.stack h.peeled d numbers bytes v i t
+        pub busy_asks : Busy high n T h.stack h.peeled numbers bytes v i t
         busy_asks = record {
+          numbered = omega (arith, took.facts.number, i_is);
           keeps = keeps;
           takes = record {
             holds = record { room = omega (arith, kept_long high n h.peeled v i numbers, holds.room); room_b = omega (arith, kept_long_b high n h.peeled t bytes, holds.room_b); small = s.lent.n_small };
@@ -516,17 +484,15 @@ module _ {high : Bool} {n : ℕ} {T : List Edge} {numbers₀ bytes₀ : List ℕ
             facts_at : (4 ≤ get_or (clear g v).degrees (first (side_from t) d) 0) × (4 ≤ get_or (remove (clear g v) (first (side_from t) d) i (side_no (first_side (side_from t)))).degrees (second (side_from t) d) 0)
             facts_at = let f = took.facts in (rw (i_is, side_is) at f.first_4, rw (i_is, side_is) at f.second_4)
 
-      pub turn_asks : (e : Edge) → e ≡ get_or T h.next no_edge → Turns high n h.stack h.peeled e numbers bytes
-      turn_asks e q = record {
+      pub turn_asks : Turns high n T h.stack h.peeled numbers bytes
+      turn_asks = record {
+        holds = holds;
         some_left = pos;
-        tops = record { holds = holds; within = omega (arith, fits); top< = λ _. v< };
-        next< = record { holds = holds; within = omega (arith, fits); top< = under top rest_below };
+        within = omega (arith, fits);
+        top< = v<;
         few = omega (arith, fits, pos, s.lent.n_small);
-        busy = λ four. subst (λ (f : Edge). Busy high n h.stack h.peeled f numbers bytes v i t) (sym (e_is four)) (busy_asks four);
+        busy = busy_asks;
       }
-        where
-          e_is : 4 ≤ get_or bytes v 0 → e ≡ d
-          e_is four = q ∙ ap (λ (k : ℕ). get_or T k no_edge) (l.next ∙ rw (ne_eqb h.stack 0 (omega (arith, pos)), ne_eqb (get_or bytes v 0 / 4) 0 (omega (arith, four))) refl)
 
       -- what a turn leaves
       pub record Next (numbers' bytes' : List ℕ) (r : Heads) : Type 0 where
@@ -539,8 +505,8 @@ module _ {high : Bool} {n : ℕ} {T : List Edge} {numbers₀ bytes₀ : List ℕ
           let b : weight n (St l'.pops).left (St l'.pops).stack ≡ weight n (step R).left (step R).stack = ap (λ (z : State). weight n z.left z.stack) a in
           omega (arith, b, step_falls n R v st (sane l.pops).inv split)
 
-      pub turned : (e : Edge) → e ≡ get_or T h.next no_edge → (numbers' bytes' : List ℕ) (r : Heads) → Turned high n h.stack h.peeled e numbers bytes numbers' bytes' r → Next numbers' bytes' r
-      turned e q numbers' bytes' r k = go (ltb (get_or bytes v 0) 4) refl
+      pub turned : (numbers' bytes' : List ℕ) (r : Heads) → Turned high n T h.stack h.peeled numbers bytes numbers' bytes' r → Next numbers' bytes' r
+      turned numbers' bytes' r k = go (ltb (get_or bytes v 0) 4) refl
         where
           go : (b : Bool) → ltb (get_or bytes v 0) 4 ≡ b → Next numbers' bytes' r
           go true p = record { loop = after; less = falls_less numbers' bytes' r after refl }
@@ -563,7 +529,6 @@ module _ {high : Bool} {n : ℕ} {T : List Edge} {numbers₀ bytes₀ : List ℕ
                 stack = rw (z.0, z.2) (sym (ap (λ (y : State). y.stack) state));
                 logged = rw (ap (λ (y : State). y.peeled) state, z.0, z.1, z.3) l.logged;
                 count = z.3 ∙ l.count ∙ sym (ap (λ (y : State). length y.peeled) state);
-                next = k.next;
                 long = k.long ∙ l.long;
                 long_b = k.long_b ∙ l.long_b;
                 rest = rw z.0 l.rest;
@@ -574,11 +539,8 @@ module _ {high : Bool} {n : ℕ} {T : List Edge} {numbers₀ bytes₀ : List ℕ
               four : 4 ≤ get_or bytes v 0
               four = ltb-false (get_or bytes v 0) 4 p
 
-              e_is : e ≡ d
-              e_is = q ∙ ap (λ (j : ℕ). get_or T j no_edge) (l.next ∙ rw (ne_eqb h.stack 0 (omega (arith, pos)), ne_eqb (get_or bytes v 0 / 4) 0 (omega (arith, four))) refl)
-
               w : TakenOff n top (K four) (B four) numbers' bytes' v i t d r.stack
-              w = subst (λ (f : Edge). TakenOff n top (K four) (B four) numbers' bytes' v i t f r.stack) e_is (k.took four).0
+              w = (k.took four).0
 
               more : r.peeled ≡ suc h.peeled
               more = (k.took four).1 ∙ add-one h.peeled
@@ -605,17 +567,16 @@ module _ {high : Bool} {n : ℕ} {T : List Edge} {numbers₀ bytes₀ : List ℕ
                 logged = rw (ap (λ (y : State). y.peeled) (state' four), more)
                     (logged_more high T n h.peeled r.stack v i t numbers bytes numbers' bytes' R.peeled room_r (keeps four) w.rest w.rest_b (took four).pivot_is l.logged);
                 count = more ∙ ap suc l.count ∙ sym (ap (λ (y : State). length y.peeled) (state' four));
-                next = k.next;
                 long = k.long ∙ l.long;
                 long_b = k.long_b ∙ l.long_b;
                 rest = drop_agrees (n + r.stack) (numbers_room high n (length T)) numbers' (K four) (omega (arith, room_r, (rooms high n (length T)).0)) w.rest ∙ kept_rest high n (length T) h.peeled v i numbers (few four) (few_n four) ∙ l.rest;
                 rest_b = drop_agrees n (bytes_room high n (length T)) bytes' (B four) (rooms high n (length T)).1 w.rest_b ∙ kept_rest_b high n (length T) h.peeled t bytes (few four) ∙ l.rest_b;
               }
 
-      pub turn_less : (e : Edge) → e ≡ get_or T h.next no_edge → (numbers' bytes' : List ℕ) (r : Heads) → Turned high n h.stack h.peeled e numbers bytes numbers' bytes' r
+      pub turn_less : (numbers' bytes' : List ℕ) (r : Heads) → Turned high n T h.stack h.peeled numbers bytes numbers' bytes' r
           → work n (graph_in n numbers' bytes') (stack_in n r.stack numbers') < work n (graph_in n numbers bytes) (stack_in n h.stack numbers)
-      turn_less e q numbers' bytes' r k =
-          let t = turned e q numbers' bytes' r k in
+      turn_less numbers' bytes' r k =
+          let t = turned numbers' bytes' r k in
           omega (arith, work_is l, work_is t.loop, t.less)
 
     pub loop_ends : h.stack ≤ 0 → PeelEnds high n T numbers₀ bytes₀ numbers bytes h.peeled

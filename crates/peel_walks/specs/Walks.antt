@@ -27,6 +27,15 @@ pub record PeelStarts (high : Bool) (n : ℕ) (T : List Edge) (numbers bytes : L
   pub graph : graph_in n numbers bytes ≡ build 0 T (empty n)
   pub stack : stack_in n first.stack numbers ≡ mones n (build 0 T (empty n))
   pub none : first.peeled ≡ 0
+
+-- the same, and which edge is read first
+pub record PeelsFrom (high : Bool) (n : ℕ) (T : List Edge) (numbers bytes : List ℕ) (first : Heads) : Type 0 where
+  pub lent : Lent high n (length T) numbers bytes
+  pub valid : Each (Valid n) T
+  pub uncrowded : crowded_vertex n T ≡ n
+  pub graph : graph_in n numbers bytes ≡ build 0 T (empty n)
+  pub stack : stack_in n first.stack numbers ≡ mones n (build 0 T (empty n))
+  pub none : first.peeled ≡ 0
   pub next : first.next ≡ next_of n first.stack numbers bytes
 
 -- the record of the first `count` peeled edges can be read, and leads to edges over `cells` vertices

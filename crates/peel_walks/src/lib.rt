@@ -2,3 +2,5 @@
 #![tactic(auto)]
 
 pub mod loops; // the graph's making, the peeling, and the filling
+#[cfg(test)]
+mod tests;

@@ -8,12 +8,12 @@ ghost use Rattle.peel_rules.specs.Peel.{fill};
 ghost use Rattle.peel_rules.specs.Machine.{build, crowd_of};
 ghost use Rattle.peel_steps.specs.Lowest.{vertex_or};
 ghost use Rattle.peel_steps.specs.Pictures.{peeled_in};
-ghost use Rattle.peel_walks.specs.Walks.{Room, PeelStarts, PeelEnds, Fillable};
+ghost use Rattle.peel_walks.specs.Walks.{Room, PeelStarts, PeelsFrom, PeelEnds, Fillable};
 
 use peel_steps::building::add_edge;
 use peel_steps::filling::fill_one;
 use peel_turns::record::Record;
-use peel_turns::visiting::{Heads, turn};
+use peel_turns::visiting::{Heads, next_edge, turn_on};
 use peeling::numbers::{Edge, Vertex};
 
 // Takes every edge into the graph; hands back the lowest vertex that came to its 64th incidence.
@@ -29,7 +29,8 @@ pub fn add_edges(edges: &[Edge], numbers: &mut [u32], bytes: &mut [u8]) -> Optio
     low
 }
 
-// Peels until the stack is empty; hands back how many edges were peeled.
+// Peels until the stack is empty; hands back how many edges were peeled. `first.next` is not read.
+#[tactic(auto, using(crate::proofs::FromLaws::starts_tops, crate::proofs::FromLaws::first_read))]
 pub fn peel<M: Record>(
     edges: &[Edge],
     n: usize,
@@ -40,10 +41,25 @@ pub fn peel<M: Record>(
     requires { PeelStarts M.high n edges.now numbers.old bytes.old first }
     ensures { PeelEnds M.high n edges.now numbers.old bytes.old numbers.new bytes.new result }
 {
+    let next = next_edge(n, first.stack, numbers, bytes);
+    peel_from::<M>(edges, n, Heads { next, ..first }, numbers, bytes)
+}
+
+// The same, where `first` says which edge is read first.
+pub fn peel_from<M: Record>(
+    edges: &[Edge],
+    n: usize,
+    first: Heads,
+    numbers: &mut [u32],
+    bytes: &mut [u8],
+) -> usize
+    requires { PeelsFrom M.high n edges.now numbers.old bytes.old first }
+    ensures { PeelEnds M.high n edges.now numbers.old bytes.old numbers.new bytes.new result }
+{
     let mut h = first;
     // No `for`: the turns say how many there are.
     while 0 < h.stack {
-        h = turn::<M>(n, h, edges[h.next], numbers, bytes);
+        h = turn_on::<M>(n, h, edges[h.next], numbers, bytes);
     }
     h.peeled
 }

@@ -1,5 +1,5 @@
 -- The lowest equation that is not in order: the walk that finds it, and that it is the lowest.
-use mathlib.Core.Path.{◌≡◌, refl, sym, ap, ◌∙◌}
+use mathlib.Core.Path.{◌≡◌, refl, sym, ap, ap₂, ◌∙◌}
 use mathlib.Core.Bool.{Bool, true, false, false≢true}
 use mathlib.Core.List.{List, [], ◌∷◌}
 use Prim.Native.Nat.{ℕ, zero, suc, ◌+◌, ◌-◌, ◌<◌, ◌≤◌, zero-le}
@@ -51,12 +51,29 @@ lowest_bad_lem n (e ∷ es) d h = go (in_order n e.vars) refl (lowest_bad_lem n 
     go true q ih = rw (lowest_skip n e es q) (ih (le_of_suc-le-suc (rw (lowest_skip n e es q) at h)))
     go false q ih = rw (lowest_here n e es q) q
 
+-- ---- the constants do not matter
+
+pub lowest_any : (n k i : ℕ) (starts vars c d : List ℕ) → lowest_bad n (equations_from k i starts vars c) ≡ lowest_bad n (equations_from k i starts vars d)
+unfolding equations_from lowest_bad
+lowest_any n zero i starts vars c d = refl
+lowest_any n (suc k) i starts vars c d =
+    ap₂ (λ (vs : List ℕ) (low : ℕ). elim (in_order n vs) [ true ↦ suc low | false ↦ 0 ]) (variables_any starts vars c d i) (lowest_any n k (i + 1) starts vars c d)
+
 -- ---- the walk: the equations before i are in order, whatever the constants are
 
 pub record Passed (n m : ℕ) (starts vars : List ℕ) (i : ℕ) : Type 0 where
   pub within : i ≤ m
   pub starting : Starts m (length vars) starts
   pub rest : (constants : List ℕ) → lowest_bad n (equations m starts vars constants) ≡ i + lowest_bad n (equations_from (m - i) i starts vars constants)
+
+-- what is passed with one list of constants is passed with any
+pub passed_any : {n m : ℕ} {starts vars : List ℕ} {i : ℕ} (constants : List ℕ) → i ≤ m → Starts m (length vars) starts
+    → lowest_bad n (equations m starts vars constants) ≡ i + lowest_bad n (equations_from (m - i) i starts vars constants) → Passed n m starts vars i
+passed_any {n} {m} {starts} {vars} {i} constants w s r = record {
+  within = w;
+  starting = s;
+  rest = λ d. lowest_any n m 0 starts vars d constants ∙ r ∙ ap (λ (k : ℕ). i + k) (lowest_any n (m - i) i starts vars constants d);
+}
 
 pub passed_begin : (n m : ℕ) (starts vars : List ℕ) → starts_kept m (length vars) starts ≡ true → Passed n m starts vars 0
 passed_begin n m starts vars h = record { within = zero-le; starting = starts_sound m (length vars) starts h; rest = λ constants. rw (sub-zero m, zero-add) }

@@ -15,4 +15,4 @@ pub number_at-requires : goal.number_at-requires
 number_at-requires c = let v = c.requires.top< (omega (arith, c.if-stack-eq0.false)) in omega (arith, v, c.requires.holds.room)
 
 pub returns : goal.returns
-returns c = next_busy c.args.n c.args.stack c.args.numbers.now c.args.bytes.now c.if-stack-eq0.false c.degree_at.ensures c.if-degree_at-eq0.false c.number_at.ensures
+returns c = next_busy c.args.n c.args.stack c.args.numbers.now c.args.bytes.now c.if-stack-eq0.false c.degree_at.ensures c.if-degree_at-eq0.false (omega (arith, c.number_at.ensures))

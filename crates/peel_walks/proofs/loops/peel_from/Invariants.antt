@@ -1,11 +1,11 @@
 use Rattle.peel_rules.proofs.PeelEmpty.{work}
 use Rattle.peel_steps.specs.Pictures.{graph_in, stack_in}
-use Rattle.peel_walks.proofs.PeelLaws.{Loop}
-use Rattle.peel_walks.proofs.loops.peel.Given as goal
+use Rattle.peel_walks.proofs.FromLaws.{LoopFrom}
+use Rattle.peel_walks.proofs.loops.peel_from.Given as goal
 
--- some pops of the rules' run are done
+-- some pops of the rules' run are done, and the next edge is told
 abbrev pub invariant-loop-h : goal.invariant-loop-h
-invariant-loop-h g l = Loop g.M.Memory.high l.fn.n l.fn.edges l.fn.numbers l.fn.bytes l.numbers l.bytes l.h
+invariant-loop-h g l = LoopFrom g.M.Memory.high l.fn.n l.fn.edges l.fn.numbers l.fn.bytes l.numbers l.bytes l.h
 
 -- the vertices on the stack, and those that may come on it
 abbrev pub decreases-loop-h : goal.decreases-loop-h

@@ -1,5 +1,5 @@
 use Rattle.peel_turns.proofs.StepLaws.{turn_tops}
-use Rattle.peel_turns.proofs.visiting.turn.Goals as goal
+use Rattle.peel_turns.proofs.visiting.turn_on.Goals as goal
 
 pub next_edge-next-requires : goal.next_edge-next-requires
 next_edge-next-requires g c =
