@@ -88,7 +88,7 @@ fn take_off(
     visit(n, head, b, t, numbers, bytes)
 }
 
-// The edge of the vertex on top of the stack: where it has none, any will do.
+// The number of the edge of the vertex on top of the stack, 0 where it has none.
 pub fn next_edge(n: usize, stack: usize, numbers: &[u32], bytes: &[u8]) -> usize
     requires { Tops n stack numbers.now bytes.now }
     ensures { result ≡ next_of n stack numbers.now bytes.now }
@@ -133,7 +133,7 @@ pub fn turn<M: Record>(
     }
 }
 
-// The same, where the edge of the vertex on top is `e`; hands back the edge of the vertex that comes on top, too.
+// The same, where the edge of the vertex on top is `e`; tells the number of the edge of the vertex that comes on top, too.
 pub fn turn_on<M: Record>(
     n: usize,
     h: Heads,
